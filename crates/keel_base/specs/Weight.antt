@@ -1,0 +1,18 @@
+-- What an op weighs: the bytes of its key and value, and 16.
+use Rattle.std.specs.Prelude.{ℕ, ◌+◌, ◌<◌, ◌≤◌, List, length}
+use Rattle.keel_base.specs.declared.op.Op.{Op}
+use Rattle.keel_base.specs.declared.op.Op.TheVariants.{Put, Del}
+
+abbrev pub weight : Op → ℕ
+weight (Put key value) = 16 + length key + length value
+weight (Del key) = 16 + length key
+
+-- a key of 1 to 1024 bytes
+pub record IsKey (key : List ℕ) : Type 0 where
+  pub some : 0 < length key
+  pub most : length key ≤ 1024
+
+-- the lengths of an op are within the limits
+abbrev pub IsWithinLimits : Op → Type 0
+IsWithinLimits (Put key value) = IsKey key × (length value ≤ 65536)
+IsWithinLimits (Del key) = IsKey key

@@ -1,0 +1,40 @@
+//! What every layer of the store shares.
+//!
+//! - `Sequence`, and under names of their own `Bytes`, `Ops`, `Batches`, `Listing`: lists on the heap.
+//! - `Op` and `Batch`: changes of the map, with the limits of their sizes and their weight.
+//! - `FileName`, `Fault`, `Reason`, `Failure`, `Call`: the words in which layers speak of the device.
+//! - `Options` with their ranges.
+//! - `Source` and `Sink`: where input comes from and output goes, in memory and over the standard streams.
+//!
+//! A refusal for want of memory is always a value of its own, `OutOfMemory`, and leaves things as they were.
+//! Any other fault of the outside raises a count that contracts see: it never falls, and stops at 2^64 - 1.
+#![tactic(auto)]
+
+mod adapter;
+mod bytes;
+mod failure;
+mod file_name;
+mod in_memory;
+mod listing;
+mod memory;
+mod op;
+mod options;
+mod sequence;
+mod sink;
+mod source;
+
+pub use adapter::{ReadSource, WriteSink};
+pub use bytes::Bytes;
+pub use failure::{Call, Counter, Failed, Failure, Fault, Reason};
+pub use file_name::{FileName, same_name};
+pub use in_memory::{Calls, MemSink, MemSource, PlainSink, PlainSource};
+pub use listing::{Entry, Listing};
+pub use memory::OutOfMemory;
+pub use op::{Batch, Op, Ops, weight};
+pub use options::Options;
+pub use sequence::Sequence;
+pub use sink::{Sink, give_all};
+pub use source::{Source, TakeEnd, take_all};
+
+#[cfg(test)]
+mod tests;

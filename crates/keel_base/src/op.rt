@@ -1,0 +1,33 @@
+// Changes of the map, and batches of them.
+ghost use Rattle.std.specs.Prelude.{◌≡◌};
+ghost use Rattle.keel_base.specs.Weight.{weight as weight_of, IsWithinLimits};
+
+use crate::{Bytes, Sequence};
+
+/// A change of one key.
+#[derive(Debug, Drop)]
+pub enum Op {
+    Put { key: Bytes, value: Bytes },
+    Del { key: Bytes },
+}
+
+/// Changes in their order.
+pub type Ops = Sequence<Op>;
+
+/// Changes that are made together. With `sync` they are acknowledged only once they are firm.
+#[derive(Debug, Drop)]
+pub struct Batch {
+    pub ops: Ops,
+    pub sync: bool,
+}
+
+/// What an op counts for in a segment or a group: the bytes of its key and value, and 16.
+pub fn weight(op: &Op) -> u64
+    requires { IsWithinLimits op.now }
+    ensures { result ≡ weight_of op.now }
+{
+    match op {
+        Op::Put { key, value } => 16 + key.len() as u64 + value.len() as u64,
+        Op::Del { key } => 16 + key.len() as u64,
+    }
+}
