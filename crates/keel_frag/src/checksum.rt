@@ -1,5 +1,4 @@
-//! CRC32C and its mask.
-
+// CRC32C and its mask.
 ghost use Rattle.std.specs.Prelude.{◌≡◌, ◌<◌, ◌∷◌, fold};
 ghost use Rattle.keel_frag.specs.Checksum as spec;
 
@@ -29,7 +28,7 @@ fn shift_bytes(register: u32, bytes: &[u8]) -> u32
     register
 }
 
-/// The CRC32C of the bytes.
+/// The CRC32C of the bytes: the cyclic redundancy check of Castagnoli's polynomial, as in iSCSI (RFC 3720).
 #[tactic(auto, unfolding(crate::specs::Checksum::crc32c))]
 pub fn crc32c(bytes: &[u8]) -> u32
     ensures { result ≡ spec.crc32c bytes.now }
@@ -37,7 +36,7 @@ pub fn crc32c(bytes: &[u8]) -> u32
     shift_bytes(u32::MAX, bytes) ^ u32::MAX
 }
 
-/// A check as it is stored.
+/// A check as LevelDB and RocksDB store it, so that a check of bytes that hold checks isn't weak.
 pub fn mask(crc: u32) -> u32
     ensures { result ≡ spec.mask crc }
 {
