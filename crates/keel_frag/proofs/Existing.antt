@@ -2,14 +2,13 @@
 use Rattle.std.proofs.Common.{◌≡◌, ℕ, zero, suc, ◌+◌, ◌-◌, ◌<◌, ◌≤◌, Bool, true, false, not, ◌⊎◌, inl, inr, eqb, eqb-true, eq-eqb, List, [], ◌∷◌, ◌++◌, length, take, drop, replicate, get_or, refl, sym, ap, subst, ◌∙◌, arith}
 use Rattle.std.specs.Option.{is_some}
 use Rattle.std.specs.Int.{w16, from_le_bytes}
-use Rattle.std.proofs.lemmas.List.{take_at, length-append, length-take}
+use Rattle.std.proofs.lemmas.List.{take_at}
 use Rattle.std.proofs.lemmas.Bool.{cases_lt}
-use Rattle.keel_frag.specs.Pieces.{Piece, fragment, trailer, type_of, fragment_bytes, Progress, start, after, room_at, spelling_of, size_of, Fits}
+use Rattle.keel_frag.specs.Pieces.{Piece, fragment, trailer, Progress, start, after, room_at, spelling_of}
 use Rattle.keel_frag.specs.Reading.{IsReading, HasReading, HasRecords}
 use Rattle.keel_frag.specs.Parsing.{BeginWith, NoPiece}
-use Rattle.keel_frag.proofs.Heads.{head_of, head_before, type_first}
-use Rattle.keel_frag.proofs.Fronts.{type_last}
-use Rattle.keel_frag.proofs.Laying.{HasRead, HasRead-start, goes_on, goes_no_further, place_within, place-size, size_positive, size_within}
+use Rattle.keel_frag.proofs.Heads.{head_before}
+use Rattle.keel_frag.proofs.Laying.{HasRead, HasRead-start, goes_on, goes_no_further, place-size, size_positive, size_within}
 
 -- ---- whether a list begins with another
 
@@ -115,7 +114,7 @@ module _ (bytes : List ℕ) where
   reads_from (suc left) p h within =
       elim (next_piece p) [
         | inl x ↦ reads_from left (after p x.0) (goes_on bytes p h x.0 x.1)
-          (omega (arith, place-size p x.0, size_positive p.place x.0 x.1.fits, size_within bytes p h (room_at p.place) (is_some p.begun) x.0 x.1))
+            (omega (arith, place-size p x.0, size_positive p.place x.0 x.1.fits, size_within bytes p h (room_at p.place) (is_some p.begun) x.0 x.1))
         | inr none ↦ (p, goes_no_further bytes p h none)
       ]
 
