@@ -1,4 +1,4 @@
--- Eight shifts at once, by a table.
+-- Many shifts at once, by tables.
 use Rattle.std.proofs.Common.{◌≡◌, ℕ, zero, suc, ◌+◌, ◌*◌, ◌/◌, ◌%◌, ◌^◌, ◌<◌, List, get_or, map, refl, sym, ap, ◌∙◌, arith, bit_xor}
 use Rattle.std.specs.List.{range_with_len}
 use Rattle.std.proofs.lemmas.List.FromFn.{get_or-map-range_with_len}
@@ -33,13 +33,13 @@ shift_bit-xor a b =
     ∙ ap (bit_xor (bit_xor (a / 2) (b / 2))) g
     ∙ xor_swap (a / 2) (b / 2) (a % 2 * polynomial) (b % 2 * polynomial)
 
-shift_bits-xor : (n a b : ℕ) → shift_bits n (bit_xor a b) ≡ bit_xor (shift_bits n a) (shift_bits n b)
+pub shift_bits-xor : (n a b : ℕ) → shift_bits n (bit_xor a b) ≡ bit_xor (shift_bits n a) (shift_bits n b)
 unfolding shift_bits
 shift_bits-xor zero a b = refl
 shift_bits-xor (suc n) a b = ap (shift_bits n) (shift_bit-xor a b) ∙ shift_bits-xor n (shift_bit a) (shift_bit b)
 
 -- zeros leave the register and change nothing
-shift_bits-high : (n a : ℕ) → shift_bits n (a * 2 ^ n) ≡ a
+pub shift_bits-high : (n a : ℕ) → shift_bits n (a * 2 ^ n) ≡ a
 unfolding shift_bits shift_bit
 shift_bits-high zero a = omega arith
 shift_bits-high (suc n) a =
@@ -49,22 +49,40 @@ shift_bits-high (suc n) a =
     ∙ xor_zero_r (a * 2 ^ n) in
     ap (shift_bits n) e ∙ shift_bits-high n a
 
--- the low byte goes through the table, and the others move down
-pub shift_bits-split : (x : ℕ) → shift_bits 8 x ≡ bit_xor (shift_bits 8 (x % 256)) (x / 256)
-shift_bits-split x =
+pub shift_bits-add : (m n a : ℕ) → shift_bits (m + n) a ≡ shift_bits n (shift_bits m a)
+unfolding shift_bits
+shift_bits-add zero n a =
+    let e : zero + n ≡ n = omega arith in
+    ap (λ (k : ℕ). shift_bits k a) e
+shift_bits-add (suc m) n a =
+    let e : suc m + n ≡ suc (m + n) = omega arith in
+    ap (λ (k : ℕ). shift_bits k a) e ∙ shift_bits-add m n (shift_bit a)
+
+-- the low byte is shifted all the way, and eight of the shifts bring the others down
+pub shift_bits-split : (n x : ℕ) → shift_bits (8 + n) x ≡ bit_xor (shift_bits (8 + n) (x % 256)) (shift_bits n (x / 256))
+shift_bits-split n x =
     let e : bit_xor (x / 256 * 256) (x % 256) ≡ x / 256 * 256 + x % 256 = xor_shifted (x / 256) 8 (x % 256) (omega arith) in
     let f : x ≡ bit_xor (x / 256 * 256) (x % 256) = sym (e ∙ omega arith) in
-    let g : shift_bits 8 (x / 256 * 256) ≡ x / 256 = shift_bits-high 8 (x / 256) in
-    ap (shift_bits 8) f
-    ∙ shift_bits-xor 8 (x / 256 * 256) (x % 256)
-    ∙ ap (λ (y : ℕ). bit_xor y (shift_bits 8 (x % 256))) g
-    ∙ xor_comm (x / 256) (shift_bits 8 (x % 256))
+    let g : shift_bits (8 + n) (x / 256 * 256) ≡ shift_bits n (x / 256) = shift_bits-add 8 n (x / 256 * 256) ∙ ap (shift_bits n) (shift_bits-high 8 (x / 256)) in
+    ap (shift_bits (8 + n)) f
+    ∙ shift_bits-xor (8 + n) (x / 256 * 256) (x % 256)
+    ∙ ap (λ (y : ℕ). bit_xor y (shift_bits (8 + n) (x % 256))) g
+    ∙ xor_comm (shift_bits n (x / 256)) (shift_bits (8 + n) (x % 256))
 
 -- ---- the table
 
-table_is : TABLE ≡ map (shift_bits 8) (range_with_len 0 256)
+abbrev entry : ℕ → ℕ
+entry i = shift_bits (8 * (i / 256 + 1)) (i % 256)
+
+table_is : TABLE ≡ map entry (range_with_len 0 2048)
 unfolding shift_bits shift_bit
 table_is = refl
 
-pub table_at : (i : ℕ) → i < 256 → get_or TABLE i 0 ≡ shift_bits 8 i
-table_at i h = ap (λ (xs : List ℕ). get_or xs i 0) table_is ∙ get_or-map-range_with_len (shift_bits 8) 0 256 i i 0 h (omega arith)
+pub table_at : (more byte : ℕ) → more < 8 → byte < 256 → get_or TABLE (256 * more + byte) 0 ≡ shift_bits (8 * (more + 1)) byte
+table_at more byte h k =
+    let i = 256 * more + byte in
+    let part : i / 256 ≡ more = omega arith in
+    let low : i % 256 ≡ byte = omega arith in
+    ap (λ (xs : List ℕ). get_or xs i 0) table_is
+    ∙ get_or-map-range_with_len entry 0 2048 i i 0 (omega arith) (omega arith)
+    ∙ (λ j. shift_bits (8 * (part j + 1)) (low j))

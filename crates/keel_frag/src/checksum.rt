@@ -1,24 +1,59 @@
 // CRC32C and its mask.
-ghost use Rattle.std.specs.Prelude.{◌≡◌, ◌<◌, ◌∷◌, fold};
+ghost use Rattle.std.specs.Prelude.{◌≡◌, ◌+◌, ◌*◌, ◌<◌, ◌∷◌, length, fold};
 ghost use Rattle.keel_frag.specs.Checksum as spec;
 
 use crate::table::TABLE;
 
-fn shift_low(low: usize) -> u32
-    requires { low < 256 }
-    ensures { result ≡ spec.shift_bits 8 low }
+/// What eight shifts make of a byte, and eight more for each of `more` bytes behind it.
+fn shifted_byte(more: usize, byte: u32) -> u32
+    requires more { more < 8 }
+    requires byte { byte < 256 }
+    ensures { result ≡ spec.shift_bits (8 * (more + 1)) byte }
 {
-    TABLE[low]
+    TABLE[256 * more + byte as usize]
 }
 
+/// A byte enters the register.
 fn shift_byte(register: u32, byte: u8) -> u32
     ensures { result ≡ spec.shift_byte register byte }
 {
     let mixed = register ^ u32::from(byte);
-    shift_low((mixed & 0xff) as usize) ^ (mixed >> 8)
+    shifted_byte(0, mixed & 0xff) ^ (mixed >> 8)
 }
 
-fn shift_bytes(register: u32, bytes: &[u8]) -> u32
+/// What 32 shifts make of four bytes.
+fn shifted_by_32(word: u32) -> u32
+    ensures { result ≡ spec.shift_bits 32 word }
+{
+    shifted_byte(3, word & 0xff)
+        ^ shifted_byte(2, (word >> 8) & 0xff)
+        ^ shifted_byte(1, (word >> 16) & 0xff)
+        ^ shifted_byte(0, word >> 24)
+}
+
+/// What 64 shifts make of four bytes.
+fn shifted_by_64(word: u32) -> u32
+    ensures { result ≡ spec.shift_bits 64 word }
+{
+    shifted_byte(7, word & 0xff)
+        ^ shifted_byte(6, (word >> 8) & 0xff)
+        ^ shifted_byte(5, (word >> 16) & 0xff)
+        ^ shifted_byte(4, word >> 24)
+}
+
+/// Eight bytes enter the register at once.
+fn shift_eight(register: u32, bytes: &[u8]) -> u32
+    requires { length bytes.now ≡ 8 }
+    ensures { result ≡ fold spec.shift_byte register bytes.now }
+{
+    let first = u32::from_le_bytes([bytes[0], bytes[1], bytes[2], bytes[3]]);
+    let second = u32::from_le_bytes([bytes[4], bytes[5], bytes[6], bytes[7]]);
+    // What doesn't wait for the register goes first.
+    shifted_by_32(second) ^ shifted_by_64(register ^ first)
+}
+
+/// Bytes enter the register one by one.
+fn shift_each(register: u32, bytes: &[u8]) -> u32
     ensures { result ≡ fold spec.shift_byte register bytes.now }
 {
     let mut register = register;
@@ -26,6 +61,20 @@ fn shift_bytes(register: u32, bytes: &[u8]) -> u32
         register = shift_byte(register, *byte);
     }
     register
+}
+
+/// Bytes enter the register, as many as can eight at a time.
+fn shift_bytes(register: u32, bytes: &[u8]) -> u32
+    ensures { result ≡ fold spec.shift_byte register bytes.now }
+{
+    let mut register = register;
+    let mut rest = bytes;
+    'eights: while 8 <= rest.len() {
+        let (eight, behind) = rest.split_at(8);
+        register = shift_eight(register, eight);
+        rest = behind;
+    }
+    shift_each(register, rest)
 }
 
 /// The CRC32C of the bytes: the cyclic redundancy check of Castagnoli's polynomial, as in iSCSI (RFC 3720).
