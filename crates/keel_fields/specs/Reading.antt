@@ -4,7 +4,8 @@ use Rattle.std.specs.Int.{Width, byte_len, from_le_bytes}
 use Rattle.keel_fields.specs.declared.error.FieldError.{FieldError}
 use Rattle.keel_fields.specs.declared.error.FieldError.TheVariants as errors
 
--- a value and the bytes behind it; or how many bytes are left where the first field begins that can't be read
+-- a value and the bytes behind it; or how many bytes are left where the first field begins that can't
+-- be read
 abbrev pub Read : Type 0 → Type 0
 Read A = Result (A × List ℕ) ℕ
 
@@ -26,7 +27,9 @@ Gives view (Err e) read = Fails e read
 
 -- a number of that width
 abbrev pub number_at : Width → List ℕ → Read ℕ
-number_at w bytes = if nat_lt (length bytes) (byte_len w) then Err (length bytes) else Ok (from_le_bytes w (take (byte_len w) bytes), drop (byte_len w) bytes)
+number_at w bytes =
+    if nat_lt (length bytes) (byte_len w) then Err (length bytes)
+    else Ok (from_le_bytes w (take (byte_len w) bytes), drop (byte_len w) bytes)
 
 -- one byte
 abbrev pub byte_at : List ℕ → Read ℕ
@@ -41,7 +44,8 @@ bounded_at w least most bytes = do
 
 -- that many bytes
 abbrev pub bytes_at : ℕ → List ℕ → Read (List ℕ)
-bytes_at n bytes = if nat_lt (length bytes) n then Err (length bytes) else Ok (take n bytes, drop n bytes)
+bytes_at n bytes =
+    if nat_lt (length bytes) n then Err (length bytes) else Ok (take n bytes, drop n bytes)
 
 -- a length, and that many bytes
 abbrev pub sized_at : (List ℕ → Read ℕ) → List ℕ → Read (List ℕ)

@@ -4,8 +4,7 @@ use Rattle.std.proofs.lemmas.List.{append_assoc, append-nil, length-append}
 use Rattle.keel_frag.specs.declared.record.LogRecord.{LogRecord}
 use Rattle.keel_frag.specs.Pieces.{spelling_of}
 use Rattle.keel_frag.specs.Reading.{IsWholeLog}
-use Rattle.keel_frag.specs.Writing.{first_place}
-use Rattle.keel_frag.specs.Spelling.{record_bytes, records_bytes, records_at, WritingAddsAll, WritingMakes, PayloadsStay, WritingGoesOn}
+use Rattle.keel_frag.specs.Writing.{first_place, record_bytes, records_bytes, records_at, WritingAddsAll, WritingMakes, PayloadsStay, WritingGoesOn}
 use Rattle.keel_frag.proofs.Laying.{size_is, size_positive}
 use Rattle.keel_frag.proofs.Adding.{adding}
 use Rattle.keel_frag.proofs.Spelled.{are_bytes}

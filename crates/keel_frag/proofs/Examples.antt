@@ -2,12 +2,12 @@
 use Rattle.std.proofs.Common.{refl}
 use Rattle.keel_frag.specs.Checksum.{crc32c, mask, shift_bits, shift_bit}
 use Rattle.keel_frag.specs.Pieces.{fragment_bytes}
-use Rattle.keel_frag.specs.Spelling.{record_bytes, fragments_of}
-use Rattle.keel_frag.specs.Worked.{ThirtyTwoZeros, NineDigits, FullRecord, EmptyFirst, EmptyFull, ZerosFirst}
+use Rattle.keel_frag.specs.Writing.{record_bytes, fragments_of}
+use Rattle.keel_frag.specs.Worked.{ThirtyTwoBytes, NineDigits, FullRecord, EmptyFirst, EmptyFull, ZerosFirst}
 
-pub thirty_two_zeros : ThirtyTwoZeros
+pub thirty_two_bytes : ThirtyTwoBytes
 unfolding crc32c shift_bits shift_bit
-thirty_two_zeros = refl
+thirty_two_bytes = (refl, refl)
 
 pub nine_digits : NineDigits
 unfolding crc32c mask shift_bits shift_bit

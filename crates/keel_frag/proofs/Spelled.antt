@@ -3,8 +3,7 @@ use Rattle.std.proofs.Common.{◌≡◌, ℕ, zero, suc, ◌+◌, ◌-◌, ◌<�
 use Rattle.std.proofs.lemmas.List.{append_cancel_left, take_at, take-append-drop, length-append, length-take, length-drop}
 use Rattle.std.proofs.lemmas.Bool.{ltb-true, ltb-false}
 use Rattle.keel_frag.specs.Pieces.{Piece, fragment, trailer, block, room_at, spelling}
-use Rattle.keel_frag.specs.Writing.{IsCut, AreRecordBytes}
-use Rattle.keel_frag.specs.Spelling.{fragments_behind, fragments_of, all_fragments, record_pieces, record_bytes, RecordBytes}
+use Rattle.keel_frag.specs.Writing.{IsCut, AreRecordBytes, fragments_behind, fragments_of, all_fragments, record_pieces, record_bytes, RecordBytes}
 
 -- ---- the fragments are a cut
 

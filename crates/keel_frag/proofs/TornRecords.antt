@@ -4,8 +4,7 @@ use Rattle.std.proofs.lemmas.List.{take_at, take-append-drop, length-append, len
 use Rattle.keel_frag.specs.declared.record.LogRecord.{LogRecord}
 use Rattle.keel_frag.specs.Pieces.{Progress, start, after_all}
 use Rattle.keel_frag.specs.Reading.{AreLaidOn, IsWholeLog}
-use Rattle.keel_frag.specs.Writing.{first_place}
-use Rattle.keel_frag.specs.Spelling.{record_bytes, records_bytes, records_at}
+use Rattle.keel_frag.specs.Writing.{first_place, record_bytes, records_bytes, records_at}
 use Rattle.keel_frag.specs.Images.{IsFrontOf, IsTornFrom, TornRecords}
 use Rattle.keel_frag.proofs.Laying.{laid_on_longer}
 use Rattle.keel_frag.proofs.Continuing.{making, going_on}

@@ -1,13 +1,14 @@
 -- Worked examples, by which the definitions were tried.
 use Rattle.std.specs.Prelude.{◌≡◌, [], ◌∷◌, codes, replicate}
+use Rattle.std.specs.List.{range_with_len}
 use Rattle.keel_frag.specs.Checksum.{crc32c, mask}
-use Rattle.keel_frag.specs.Spelling.{record_bytes}
+use Rattle.keel_frag.specs.Writing.{record_bytes}
 
--- the check of 32 zeros, as RFC 3720 has it
-abbrev pub ThirtyTwoZeros : Type 0
-ThirtyTwoZeros = crc32c (replicate 32 0) ≡ 0x8A9136AA
+-- two checks of RFC 3720: of 32 zeros, and of the bytes from 0 to 31
+abbrev pub ThirtyTwoBytes : Type 0
+ThirtyTwoBytes = (crc32c (replicate 32 0) ≡ 0x8A9136AA) × (crc32c (range_with_len 0 32) ≡ 0x46DD794E)
 
--- the check of nine digits, by which tables of such checks name it (CRC-32/ISCSI), and as it is stored
+-- the check of nine digits, which lists of such checks have (CRC-32/ISCSI), and as it is stored
 abbrev pub NineDigits : Type 0
 NineDigits = (crc32c (codes "123456789") ≡ 0xE3069283) × (mask 0xE3069283 ≡ 0xC78AB0E5)
 
@@ -18,7 +19,8 @@ FullRecord = record_bytes 0 (codes "abc") ≡ 242 ∷ 112 ∷ 232 ∷ 157 ∷ 3 
 -- where exactly seven bytes are left, an empty FIRST fragment, and a LAST one
 abbrev pub EmptyFirst : Type 0
 EmptyFirst =
-    record_bytes 32761 (1 ∷ 2 ∷ []) ≡ 100 ∷ 81 ∷ 208 ∷ 233 ∷ 0 ∷ 0 ∷ 2 ∷ 31 ∷ 3 ∷ 67 ∷ 130 ∷ 2 ∷ 0 ∷ 4 ∷ 1 ∷ 2 ∷ []
+    record_bytes 32761 (1 ∷ 2 ∷ [])
+    ≡ 100 ∷ 81 ∷ 208 ∷ 233 ∷ 0 ∷ 0 ∷ 2 ∷ 31 ∷ 3 ∷ 67 ∷ 130 ∷ 2 ∷ 0 ∷ 4 ∷ 1 ∷ 2 ∷ []
 
 -- where they are left for an empty record, one FULL fragment
 abbrev pub EmptyFull : Type 0

@@ -77,7 +77,8 @@ fn shift_bytes(register: u32, bytes: &[u8]) -> u32
     shift_each(register, rest)
 }
 
-/// The CRC32C of the bytes: the cyclic redundancy check of Castagnoli's polynomial, as in iSCSI (RFC 3720).
+/// The CRC32C of the bytes: the cyclic redundancy check of Castagnoli's polynomial, as in iSCSI
+/// (RFC 3720).
 #[tactic(auto, unfolding(crate::specs::Checksum::crc32c))]
 pub fn crc32c(bytes: &[u8]) -> u32
     ensures { result ≡ spec.crc32c bytes.now }
