@@ -1,0 +1,11 @@
+pub mod Directory
+pub mod State
+pub mod Step
+pub mod Image
+pub mod Plain
+pub mod Sound
+pub mod Counts
+pub mod Listings
+pub mod Told
+pub mod Rule
+pub mod Laws
