@@ -101,6 +101,11 @@ sound-settled kept state sound = record {
   files = files-operated (take kept state.waiting) state.files sound.files;
 }
 
+-- where all operations are done, reads see the directory
+pub own-read : (state : State) → IsSound state → AreOwn (length state.files) (operated_all state.waiting state.firm)
+own-read state sound =
+    subst (λ operations. AreOwn (length state.files) (operated_all operations state.firm)) (take_all (length state.waiting) state.waiting (omega arith)) (sound.one_to_one (length state.waiting))
+
 -- ---- what an Ok leaves
 
 mapped : (change : ℕ → State) (found : Option ℕ) → ((number : ℕ) → IsSound (change number)) → IfSome (option_map change found) IsSound
@@ -126,28 +131,29 @@ sound-done (Remove name) state lawful sound = sound-unlinked name state sound
 sound-done (Cut name size) state lawful sound = mapped (λ number. cut_file number size state) (file_of name state) (λ number. sound-cut number size state sound)
 sound-done SyncDir state lawful sound = sound-settled (length state.waiting) state sound
 
--- ---- what a failure leaves
+-- a call that is refused leaves the device as it was
+pub sound-or : (outcome : Option State) (state : State) → IfSome outcome IsSound → IsSound state → IsSound (unwrap_or outcome state)
+sound-or None state some sound = sound
+sound-or (Some after) state some sound = some
 
-or_before : (outcome : Option State) (state : State) → IfSome outcome IsSound → IsSound state → IsSound (unwrap_or outcome state)
-or_before None state some sound = sound
-or_before (Some after) state some sound = some
+-- ---- what a failure leaves
 
 done_or_not : (kept : ℕ) (outcome : Option State) (state : State) → IfSome outcome IsSound → IsSound state → IsSound (if kept == 0 then state else unwrap_or outcome state)
 done_or_not kept outcome state some sound =
     elim (kept == 0) as (λ b. IsSound (if b then state else unwrap_or outcome state)) [
       | true ↦ sound
-      | false ↦ or_before outcome state some sound
+      | false ↦ sound-or outcome state some sound
     ]
 
 pub sound-failed : (change : Change) (kept : ℕ) (state : State) → IsLawful change → IsSound state → IsSound (failed change kept state)
 sound-failed (Create name) kept state lawful sound = done_or_not kept (done (Create name) state) state (sound-done (Create name) state lawful sound) sound
 sound-failed (Append name bytes) kept state lawful sound =
     let spoilt : ℕ → State = λ number. with_file number (λ file. spoiled (extended bytes kept file)) state in
-    or_before (option_map spoilt (file_of name state)) state
+    sound-or (option_map spoilt (file_of name state)) state
     (mapped spoilt (file_of name state) (λ number. sound-with_file number (λ file. spoiled (extended bytes kept file)) state (λ file is. spoiled_is_file (extended bytes kept file) (extended_is_file bytes kept file lawful is)) sound))
     sound
 sound-failed (Sync name) kept state lawful sound =
-    or_before (option_map (λ number. with_file number spoiled state) (file_of name state)) state
+    sound-or (option_map (λ number. with_file number spoiled state) (file_of name state)) state
     (mapped (λ number. with_file number spoiled state) (file_of name state) (λ number. sound-with_file number spoiled state spoiled_is_file sound)) sound
 sound-failed (Rename from to) kept state lawful sound = done_or_not kept (done (Rename from to) state) state (sound-done (Rename from to) state lawful sound) sound
 sound-failed (Remove name) kept state lawful sound = done_or_not kept (done (Remove name) state) state (sound-done (Remove name) state lawful sound) sound

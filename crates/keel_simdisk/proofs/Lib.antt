@@ -1,0 +1,6 @@
+pub mod Answering
+pub mod Keeping
+pub mod Leaving
+pub mod Meeting
+pub mod Sorting
+pub mod Waiting
