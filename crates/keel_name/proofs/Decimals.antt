@@ -1,5 +1,5 @@
 -- Digits, the numbers that they spell, and zeros in front of them.
-use Rattle.std.proofs.Common.{◌*◌, take, lit≤, ◌≡◌, ◌≢◌, ℕ, zero, suc, ◌+◌, ◌-◌, ◌<◌, ◌≤◌, ◌^◌, ◌⊎◌, List, [], ◌∷◌, ◌++◌, length, get_or, replicate, refl, sym, ap, ◌∙◌, subst, inl, inr, arith, lit<}
+use Rattle.std.proofs.Common.{◌*◌, take, lit≤, ◌≡◌, ℕ, zero, suc, ◌+◌, ◌-◌, ◌<◌, ◌≤◌, ◌^◌, List, [], ◌∷◌, ◌++◌, length, get_or, replicate, refl, sym, ap, ◌∙◌, subst, inl, inr, arith, lit<}
 use Rattle.std.specs.Char.{digit_value, IsAsciiDigit, IsNotAsciiDigit}
 use Rattle.std.specs.Fmt.{decimal}
 use Rattle.std.specs.Str.Parse.{AllDigits, digits_value}
@@ -49,7 +49,7 @@ digits-padded (d ∷ ds) all small some =
     elim (cases_eq d 48) [
       | inl zero_first ↦ subst is_padded (sym zero_first) (λ all small. behind_zero ds all.1 small (digits-padded ds all.1 small)) all small
       | inr another ↦ filled (decimal (digits_value 10 (d ∷ ds))) (d ∷ ds)
-        (decimal-digits_value own (d ∷ ds) all (omega arith) (λ is_zero. absurd (another is_zero)) small)
+          (decimal-digits_value own (d ∷ ds) all (omega arith) (λ is_zero. absurd (another is_zero)) small)
     ]
 
 -- what is filled with zeros to a width and no further is what is printed so of its value
@@ -57,12 +57,12 @@ pub filled-padded : (width : ℕ) (ds : List ℕ) → 1 ≤ width → IsFilled w
 filled-padded width ds some is all small =
     elim (cases_lt width (length ds)) [
       | inl more ↦
-        let plain : decimal (digits_value 10 ds) ≡ ds = decimal-digits_value own ds all (omega (arith, is.least)) (λ is_zero. absurd (is.first more is_zero)) small in
-        let none : width - length (decimal (digits_value 10 ds)) ≡ 0 = omega (arith, ap length plain) in
-        rw none (sym plain)
+          let plain : decimal (digits_value 10 ds) ≡ ds = decimal-digits_value own ds all (omega (arith, is.least)) (λ is_zero. absurd (is.first more is_zero)) small in
+          let none : width - length (decimal (digits_value 10 ds)) ≡ 0 = omega (arith, ap length plain) in
+          rw none (sym plain)
       | inr most ↦
-        let same : length ds ≡ width = omega (arith, is.least) in
-        sym (rw same at (digits-padded ds all small (omega (arith, is.least))))
+          let same : length ds ≡ width = omega (arith, is.least) in
+          sym (rw same at (digits-padded ds all small (omega (arith, is.least))))
     ]
 
 -- a padded number is digits of its value, and filled
@@ -86,8 +86,8 @@ filled_padded width number some small = record {
       elim (cases_lt 0 number) [
         | inl above ↦ omega (arith, first_decimal number above small)
         | inr none_above ↦
-          let zero : number ≡ 0 = omega arith in
-          omega (arith, short zero, ap length (decimal_digit 0 (lit< tt)), length_padded width number)
+            let zero : number ≡ 0 = omega arith in
+            omega (arith, short zero, ap length (decimal_digit 0 (lit< tt)), length_padded width number)
       ];
 }
 
@@ -114,8 +114,7 @@ too_large ds i value inside same over small = over (omega (arith, same, value_wi
 pub one_more : (ds : List ℕ) (i value more : ℕ) → i < length ds → IsAsciiDigit (get_or ds i 0) → AllDigits 10 (take i ds) → value ≡ digits_value 10 (take i ds)
     → more + 48 ≡ value * 10 + get_or ds i 0 → AllDigits 10 (take (i + 1) ds) × (more ≡ digits_value 10 (take (i + 1) ds))
 one_more ds i value more inside digit all same grown =
-    let valued = digit_value_digit (get_or ds i 0) digit in
-    (
+    let valued = digit_value_digit (get_or ds i 0) digit in (
       digits_more 10 ds i inside all (omega (arith, valued, digit.1)),
       omega (arith, valued, same, grown, digits_value_more 10 ds i inside),
     )

@@ -1,15 +1,12 @@
 -- Names stand in one order, since their spellings do.
-use Rattle.std.proofs.Common.{◌≡◌, ◌≢◌, ◌⊎◌, true, false, refl, sym, ap, ◌∙◌, subst, inl, inr, List, ℕ, Bool, nat_cmp}
+use Rattle.std.proofs.Common.{◌≡◌, ◌≢◌, ◌⊎◌, true, false, refl, ap, ◌∙◌, inl, inr, List, ℕ}
 use Rattle.std.specs.declared.cmp.Ordering.{Ordering}
 use Rattle.std.specs.declared.cmp.Ordering.TheVariants.{Less, Equal, Greater}
 use Rattle.std.specs.Ordering.{is_lt, ordering_reverse}
-use Rattle.std.specs.Cmp.{IsTotalOrder}
-use Rattle.std.specs.Cmp.Lexicographic.{slice_cmp}
 use Rattle.std.proofs.lemmas.Cmp.{nat_list_cmp_total}
 use Rattle.std.proofs.lemmas.Map.Lookups.{exact_bytes}
-use Rattle.keel_base.specs.declared.file_name.FileName.{FileName}
 use Rattle.keel_base.specs.Keys.{key_lt, key_cmp}
-use Rattle.keel_base.specs.Name.{IsName, printed, listed_before}
+use Rattle.keel_base.specs.Name.{printed}
 use Rattle.keel_name.specs.Laws.{IsListingOrder}
 use Rattle.keel_name.proofs.Spellings.{printed_injective}
 

@@ -18,6 +18,5 @@ pub use decimal::read_decimal;
 pub use printing::print;
 pub use reading::read;
 
-
 #[cfg(test)]
 mod tests;

@@ -10,7 +10,10 @@ fn names_are_printed_and_read(rt: HostRuntime) -> Result<(), Fail> {
         (FileName::Table(7), b"000007.sst"),
         (FileName::Trash(999999), b"999999.sst.trash"),
         (FileName::Manifest(3), b"MANIFEST-000003"),
-        (FileName::Manifest(72057594037927936), b"MANIFEST-72057594037927936"),
+        (
+            FileName::Manifest(72057594037927936),
+            b"MANIFEST-72057594037927936",
+        ),
         (FileName::Temp(12), b"000012.dbtmp"),
         (FileName::Current, b"CURRENT"),
     ];

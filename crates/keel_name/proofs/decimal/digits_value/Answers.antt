@@ -1,6 +1,5 @@
-use Rattle.std.proofs.Common.{◌≡◌, ◌+◌, ◌*◌, ◌<◌, ◌≤◌, ◌^◌, length, take, ap, ◌∙◌, arith}
-use Rattle.std.specs.Char.{digit_value}
-use Rattle.std.specs.Str.Parse.{AllDigits, digits_value}
+use Rattle.std.proofs.Common.{◌≡◌, take, ap, ◌∙◌, arith}
+use Rattle.std.specs.Str.Parse.{digits_value}
 use Rattle.std.proofs.lemmas.List.{take_all}
 use Rattle.std.proofs.lemmas.Str.{digit_value_digit}
 use Rattle.keel_name.proofs.Decimals.{no_digit, too_large, one_more}
@@ -19,8 +18,8 @@ pub returns-in_err-value : goal.returns-in_err-value
 returns-in_err-value c =
     let valued = digit_value_digit _ c.if-not-is_ascii_digit.ensures.cases in
     rw c.from_residual-in_err-value.ensures (λ is.
-        too_large c.args.digits.now c.loop-digit.digit-index c.loop-digit.value c.loop-digit-test.true c.loop-digit.invariant.so_far
-        (λ fits. c.in_err-value.ensures (omega (arith, valued, c.in_ok-checked_mul.ensures, c.from.ensures))) is.1)
+    too_large c.args.digits.now c.loop-digit.digit-index c.loop-digit.value c.loop-digit-test.true c.loop-digit.invariant.so_far
+    (λ fits. c.in_err-value.ensures (omega (arith, valued, c.in_ok-checked_mul.ensures, c.from.ensures))) is.1)
 
 pub loop-digit-preserved : goal.loop-digit-preserved
 loop-digit-preserved c =

@@ -1,4 +1,4 @@
-use Rattle.std.proofs.Common.{◌≡◌, ◌≢◌, ℕ, List, ◌++◌, Option, Some, None, IfSome, IfNone, sym, ap, ◌∙◌}
+use Rattle.std.proofs.Common.{◌≡◌, ℕ, List, ◌++◌, Option, Some, None, IfSome, sym, ap, ◌∙◌}
 use Rattle.std.proofs.lemmas.Bool.Decides.{Decides-eqb}
 use Rattle.std.proofs.lemmas.List.{append_assoc, append_cancel_left}
 use Rattle.std.proofs.lemmas.Slice.Eq.{strip_prefix_is, strip_suffix_is}
@@ -27,7 +27,7 @@ returns-in_err-digits-clause-none c =
     let front = strip_prefix_is Decides-eqb c.args.bytes.now c.args.before.now (Some c.in_ok-rest.rest) c.in_ok-rest.ensures.cases in
     let other = strip_suffix_is Decides-eqb c.in_ok-rest.rest.now c.args.behind.now None c.in_err-digits.ensures.cases in
     rw c.from_residual-in_err-digits.ensures (λ number is same.
-        other (numeral number) (behind_front c.args.bytes.now c.args.before.now c.in_ok-rest.rest.now (numeral number) c.args.behind.now front same))
+    other (numeral number) (behind_front c.args.bytes.now c.args.before.now c.in_ok-rest.rest.now (numeral number) c.args.behind.now front same))
 
 pub returns-clause-found : goal.returns-clause-found
 returns-clause-found c =
