@@ -1,0 +1,19 @@
+//! The language of workloads: commands, one a line, and the lines that they are answered with.
+//!
+//! - `read_command` and `print_command` go from a line to the command that it says and back; `is_blank` tells
+//!   the lines that say none and have no answer. The grammar is one table, `parts_of`, of what each command is
+//!   spelled with: words, numbers and texts, in which `%` and two hexadecimal digits stand for a byte.
+//! - `print_reply` gives the line of a reply.
+//! - `OptionName` has the options with their ranges and their values where none was set.
+//! - `laws` has what follows for the language: a line says one command, and each command's own line says it.
+#![tactic(auto)]
+
+mod command;
+mod names;
+mod option_name;
+mod reply;
+mod verb;
+
+pub use command::{Command, LineError};
+pub use option_name::{OptionName, Range};
+pub use reply::{Grade, Reply, SlotName};
