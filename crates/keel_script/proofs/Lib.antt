@@ -1,0 +1,4 @@
+pub mod Choices
+pub mod Numbers
+pub mod Splitting
+pub mod Spellings

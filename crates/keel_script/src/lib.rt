@@ -8,12 +8,16 @@
 //! - `laws` has what follows for the language: a line says one command, and each command's own line says it.
 #![tactic(auto)]
 
+mod arguments;
 mod command;
 mod names;
 mod option_name;
 mod reply;
+mod text;
 mod verb;
+mod words;
 
 pub use command::{Command, LineError};
 pub use option_name::{OptionName, Range};
 pub use reply::{Grade, Reply, SlotName};
+pub use words::is_blank;

@@ -1,0 +1,72 @@
+// Texts: any bytes in one word.
+ghost use Rattle.std.specs.Prelude.{◌≡◌, ◌<◌};
+ghost use Rattle.std.specs.Char.{digit_value};
+ghost use Rattle.std.specs.Option.{SomeIff};
+ghost use Rattle.keel_script.specs.Reading.{Gives, byte_at, bytes_from, text_from};
+ghost use Rattle.keel_script.specs.Texts.{is_plain};
+
+use crate::LineError;
+use keel_base::{Bytes, OutOfMemory};
+use std::alloc::Global;
+
+// The text that a word is.
+#[tactic(auto, unfolding(crate::specs::Reading::text_from))]
+pub(crate) fn text_of(alloc: Global, word: &[u8]) -> Result<Bytes, LineError>
+    ensures { Gives (λ bytes. bytes) result (text_from word.now) }
+{
+    if word == b"%".as_slice() {
+        return Ok(Bytes::new(alloc));
+    }
+    if word.is_empty() {
+        return Err(LineError::NotACommand);
+    }
+    bytes_of(alloc, word)
+}
+
+// The bytes that are spelled one behind another.
+fn bytes_of(alloc: Global, word: &[u8]) -> Result<Bytes, LineError>
+    ensures { Gives (λ bytes. bytes) result (bytes_from word.now) }
+{
+    let mut bytes = Bytes::new(alloc);
+    let mut rest = word;
+    'bytes: while !rest.is_empty() {
+        let (byte, others) = byte_of(rest)?;
+        bytes.extend(&[byte])?;
+        rest = others;
+    }
+    Ok(bytes)
+}
+
+// The first byte, and the spelling of the others.
+#[tactic(auto, unfolding(crate::specs::Reading::byte_at))]
+fn byte_of(word: &[u8]) -> Result<(u8, &[u8]), LineError>
+    ensures { Gives (λ x. (x.0, x.1.now)) result (byte_at word.now) }
+{
+    match word {
+        [b'%', high, low, rest @ ..] => match (digit_of(*high), digit_of(*low)) {
+            (Some(high), Some(low)) => Ok((16 * high + low, rest)),
+            _ => Err(LineError::NotACommand),
+        },
+        [byte, rest @ ..] if is_plain(*byte) => Ok((*byte, rest)),
+        _ => Err(LineError::NotACommand),
+    }
+}
+
+// The value of a hexadecimal digit, in either case.
+fn digit_of(digit: u8) -> Option<u8>
+    ensures { SomeIff result (digit_value digit < 16) (digit_value digit) }
+{
+    match digit {
+        b'0'..=b'9' => Some(digit - b'0'),
+        b'a'..=b'f' => Some(digit - b'a' + 10),
+        b'A'..=b'F' => Some(digit - b'A' + 10),
+        _ => None,
+    }
+}
+
+// Whether a byte may stand for itself.
+pub(crate) fn is_plain(byte: u8) -> bool
+    ensures { result ≡ is_plain byte }
+{
+    33 <= byte && byte <= 126 && byte != b'%'
+}
