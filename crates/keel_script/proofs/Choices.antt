@@ -24,3 +24,31 @@ stepped (Some x) f y e = (x, refl, e)
 
 pub same_some : {A : Type 0} (x y : A) → Some x ≡ Some y → x ≡ y
 same_some x y e = cc
+
+pub which : (test : Bool) → (test ≡ true) ⊎ (test ≡ false)
+which true = inl refl
+which false = inr refl
+
+-- the second of three, by two tests
+pub second : {A : Type 0} (a b : Bool) (x y z : A) → a ≡ false → b ≡ true → cond a x (cond b y z) ≡ y
+second false true x y z first other = refl
+second false false x y z first other = cc
+second true b x y z first other = cc
+
+pub third : {A : Type 0} (a b : Bool) (x y z : A) → a ≡ false → b ≡ false → cond a x (cond b y z) ≡ z
+third false false x y z first other = refl
+third false true x y z first other = cc
+third true b x y z first other = cc
+
+-- a step that gave something, handed on
+pub by_step : {A B P : Type 0} (o : Option A) (f : A → Option B) (y : B) → (o >>= f) ≡ Some y → ((x : A) → o ≡ Some x → f x ≡ Some y → P) → P
+by_step None f y e on = cc
+by_step (Some x) f y e on = on x refl e
+
+pub if_true : {A : Type 0} (test : Bool) (x y : A) → test ≡ true → cond test x y ≡ x
+if_true true x y is = refl
+if_true false x y is = cc
+
+pub if_false : {A : Type 0} (test : Bool) (x y : A) → test ≡ false → cond test x y ≡ y
+if_false false x y is = refl
+if_false true x y is = cc

@@ -1,4 +1,13 @@
+pub mod Canonical
 pub mod Choices
+pub mod Commands
+pub mod Complete
 pub mod Numbers
 pub mod Splitting
 pub mod Spellings
+pub mod OwnLines
+pub mod PartLaws
+pub mod Sound
+pub mod Steps
+pub mod TextLaws
+pub mod Visible

@@ -1,5 +1,5 @@
 -- How the words of a line are taken off one by one.
-use Rattle.std.proofs.Common.{◌≡◌, ◌≢◌, ℕ, zero, suc, ◌<◌, ◌≤◌, Bool, true, false, not, ◌==◌, List, [], ◌∷◌, length, get_or, take, drop, refl, sym, ap, ◌∙◌, arith, if◌then◌else◌, ◌-◌, ◌+◌, inl, inr, add-zero, get_or-drop, length-drop}
+use Rattle.std.proofs.Common.{◌≡◌, ◌≢◌, ℕ, zero, suc, ◌<◌, ◌≤◌, true, false, List, [], ◌∷◌, length, get_or, take, drop, refl, sym, ap, ◌∙◌, arith, ◌-◌, inl, inr, add-zero, get_or-drop, length-drop}
 use Rattle.std.proofs.lemmas.Bool.{cases_lt, eq-eqb, ne_eqb}
 use Rattle.keel_script.specs.Words.{begins_word, onto_first, words_of}
 
@@ -9,6 +9,9 @@ behind_spaces line zero spaces = refl
 behind_spaces [] (suc n) spaces = refl
 behind_spaces (byte ∷ line) (suc n) spaces =
     rw (eq-eqb byte 32 (spaces 0 (omega arith))) (behind_spaces line n (λ k below. spaces (suc k) (omega arith)))
+
+pub behind_space : (byte : ℕ) (line : List ℕ) → byte ≡ 32 → words_of (byte ∷ line) ≡ words_of line
+behind_space byte line space = rw (eq-eqb byte 32 space) refl
 
 -- a byte that is no space begins a word, which goes on or not
 pub word_goes_on : (byte : ℕ) (line : List ℕ) → byte ≢ 32 → begins_word line ≡ true → words_of (byte ∷ line) ≡ onto_first byte (words_of line)
@@ -55,7 +58,7 @@ some_word line rest word others start end spaces begins back some within inside 
     let more : 0 < end = elim (cases_lt 0 end) [
       | inl more ↦ more
       | inr none ↦
-        let zero_end : end ≡ 0 = omega arith in
-        absurd (begins (omega arith) (sym here ∙ ap (λ (k : ℕ). get_or rest k 0) (sym zero_end) ∙ ends (omega arith)))
+          let zero_end : end ≡ 0 = omega arith in
+          absurd (begins (omega arith) (sym here ∙ ap (λ (k : ℕ). get_or rest k 0) (sym zero_end) ∙ ends (omega arith)))
     ] in
     behind_spaces line start spaces ∙ ap words_of (sym back) ∙ first_word rest end more within inside ends ∙ rw (front, behind) refl

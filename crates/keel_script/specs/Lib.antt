@@ -1,4 +1,5 @@
 pub mod Grammar
+pub mod Laws
 pub mod Names
 pub mod Options
 pub mod Parts

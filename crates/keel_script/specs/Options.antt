@@ -1,5 +1,5 @@
 -- The options: their names, their ranges, and what they are where nothing was set.
-use Rattle.std.specs.Prelude.{ℕ, ◌^◌, List, codes}
+use Rattle.std.specs.Prelude.{ℕ, List, codes}
 use Rattle.keel_script.specs.declared.option_name.OptionName.{OptionName}
 use Rattle.keel_script.specs.declared.option_name.OptionName.TheVariants.{Paranoid, Auto, Attempts, Interval, WriteBuffer, MaxImmutables, Level0Trigger, LevelBase, TableSize, Limit, Buffer, Rate, Ratio, Chunk}
 use Rattle.keel_script.specs.declared.option_name.Range.{Range}

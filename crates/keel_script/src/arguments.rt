@@ -1,5 +1,5 @@
 // The words behind a command's first, one reader for each kind.
-ghost use Rattle.std.specs.Prelude.{◌≡◌};
+ghost use Rattle.std.specs.Prelude.{◌≡◌, ◌≤◌, IfOk};
 ghost use Rattle.keel_script.specs.Reading.{Gives, decimal_from, text_from, option_name_from, call_from, fault_from, first_by, number_to, word_at, end_at, sync_at};
 ghost use Rattle.keel_script.specs.Words.{words_of};
 
@@ -50,7 +50,8 @@ fn decimal_of(word: &[u8]) -> Option<u64>
 /// A number that is not over this one.
 #[tactic(auto, unfolding(crate::specs::Reading::number_to))]
 pub fn number_up_to(line: &[u8], most: u64) -> Result<(u64, &[u8]), LineError>
-    ensures { Gives (λ x. (x.0, words_of x.1.now)) result (number_to most (words_of line.now)) }
+    ensures read { Gives (λ x. (x.0, words_of x.1.now)) result (number_to most (words_of line.now)) }
+    ensures within { IfOk result (λ x. x.0 ≤ most) }
 {
     let (number, rest) = number(line)?;
     if number <= most {
@@ -82,7 +83,10 @@ pub fn option_name(line: &[u8]) -> Result<(OptionName, &[u8]), LineError>
 fn find_option(word: &[u8]) -> Option<OptionName>
     ensures { result ≡ option_name_from word.now }
 {
-    OptionName::ALL.iter().copied().find(|name| name.name() == word)
+    OptionName::ALL
+        .iter()
+        .copied()
+        .find(|name| name.name() == word)
 }
 
 #[tactic(auto, unfolding(crate::specs::Reading::first_by))]
@@ -117,7 +121,10 @@ pub fn device_fault(line: &[u8]) -> Result<(Fault, &[u8]), LineError>
 fn find_device_fault(word: &[u8]) -> Option<Fault>
     ensures { result ≡ fault_from word.now }
 {
-    DEVICE_FAULTS.iter().copied().find(|fault| fault_name(*fault) == word)
+    DEVICE_FAULTS
+        .iter()
+        .copied()
+        .find(|fault| fault_name(*fault) == word)
 }
 
 /// Whether the last word is `sync`; there is no other.

@@ -10,8 +10,10 @@
 
 mod arguments;
 mod command;
+pub mod laws;
 mod names;
 mod option_name;
+mod reading;
 mod reply;
 mod text;
 mod verb;
@@ -19,5 +21,6 @@ mod words;
 
 pub use command::{Command, LineError};
 pub use option_name::{OptionName, Range};
+pub use reading::read_command;
 pub use reply::{Grade, Reply, SlotName};
 pub use words::is_blank;

@@ -1,4 +1,4 @@
-use Rattle.keel_script.proofs.Spellings.{one_more, no_byte, shorter}
+use Rattle.keel_script.proofs.Spellings.{one_more, shorter}
 use Rattle.keel_script.proofs.text.bytes_of.Goals as goal
 
 pub bytes-smaller : goal.bytes-smaller
