@@ -11,8 +11,10 @@
 mod arguments;
 mod command;
 pub mod laws;
+mod line;
 mod names;
 mod option_name;
+mod printing;
 mod reading;
 mod reply;
 mod text;
@@ -21,6 +23,7 @@ mod words;
 
 pub use command::{Command, LineError};
 pub use option_name::{OptionName, Range};
+pub use printing::print_command;
 pub use reading::read_command;
 pub use reply::{Grade, Reply, SlotName};
 pub use words::is_blank;
