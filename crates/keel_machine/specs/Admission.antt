@@ -1,0 +1,100 @@
+-- Which batches are queued, and which outcomes are kept.
+use Rattle.std.specs.Prelude.{◌≡◌, ℕ, ◌+◌, ◌^◌, ◌==◌, nat_le, nat_lt, not, Bool, List, [], ◌∷◌, ◌++◌, length, map, find, filter, Option, Some, None, if◌then◌else◌, option_map, unwrap_or}
+use Rattle.std.specs.List.{list_any}
+use Rattle.keel_base.specs.declared.failure.Failure.{Failure}
+use Rattle.keel_base.specs.declared.failure.Counter.TheVariants.{Sequence, Ticket}
+use Rattle.keel_base.specs.declared.op.Batch.{Batch}
+use Rattle.keel_base.specs.declared.op.Op.{Op}
+use Rattle.keel_machine.specs.declared.answers.Admit.{Admit}
+use Rattle.keel_machine.specs.declared.answers.Admit.TheVariants.{Queued, Stopped, Spent, QueueFull, OutOfMemory}
+use Rattle.keel_machine.specs.declared.answers.Outcome.{Outcome}
+use Rattle.keel_machine.specs.declared.answers.Outcome.TheVariants as outcome
+use Rattle.keel_machine.specs.States.{State, Group, point_of}
+use Rattle.keel_machine.specs.Tests.{first_some, when}
+
+-- The failure that stands. Only logs are written, and nothing more behind a failure: so it is the only one.
+abbrev pub standing_of : List Failure → Option Failure
+standing_of [] = None
+standing_of (failure ∷ failures) = Some failure
+
+abbrev pub standing : State → Option Failure
+standing s = standing_of s.failing.failures
+
+abbrev pub ops_of : List Batch → List (List Op)
+ops_of batches = map (λ batch. batch.ops) batches
+
+-- how many ops these batches have
+abbrev pub count_ops : List (List Op) → ℕ
+count_ops [] = 0
+count_ops (ops ∷ batches) = length ops + count_ops batches
+
+-- the sequence of the last published op
+abbrev pub last_seq : State → ℕ
+last_seq s = (point_of s.story).seq
+
+abbrev pub tickets_of_group : Option Group → List ℕ
+tickets_of_group None = []
+tickets_of_group (Some group) = group.tickets
+
+abbrev pub batches_of_group : Option Group → List Batch
+batches_of_group None = []
+batches_of_group (Some group) = group.batches
+
+-- how many ops are on their way: in limbo, in the group in flight, or waiting
+abbrev pub ops_on_their_way : State → ℕ
+ops_on_their_way s =
+    count_ops s.story.limbo + count_ops (ops_of (batches_of_group s.jobs.write.running)) + count_ops (map (λ member. member.batch.ops) s.writing.waiting)
+
+-- the sequence that the batch would bring
+abbrev pub seq_with : State → Batch → ℕ
+seq_with s batch = last_seq s + ops_on_their_way s + length batch.ops
+
+-- how many batches may wait
+abbrev pub most_waiting : ℕ
+most_waiting = 1
+
+-- the refusals, in the order of their tests
+abbrev pub refusal : State → Batch → Option Admit
+refusal s batch = first_some (
+    option_map Stopped (standing s)
+    ∷ when (nat_lt (2 ^ 56) (seq_with s batch)) (Spent Sequence)
+    ∷ when (nat_le (2 ^ 56) s.writing.last_ticket) (Spent Ticket)
+    ∷ when (nat_le most_waiting (length s.writing.waiting)) (QueueFull (length s.writing.waiting))
+    ∷ [])
+
+-- the batch waits, under the next ticket
+abbrev pub queued : Batch → State → State
+queued batch s = record s {
+  writing = record s.writing {
+    waiting = s.writing.waiting ++ (record { ticket = s.writing.last_ticket + 1; batch = batch }) ∷ [];
+    last_ticket = s.writing.last_ticket + 1;
+  };
+}
+
+-- a batch is refused as by the first test that holds, or queued, unless memory is wanting
+abbrev pub AdmitAnswers : State → Batch → Admit → Type 0
+AdmitAnswers s batch OutOfMemory = Unit {0}
+AdmitAnswers s batch (Queued ticket) = (refusal s batch ≡ None) × (ticket ≡ s.writing.last_ticket + 1)
+AdmitAnswers s batch answer = refusal s batch ≡ Some answer
+
+abbrev pub admit_after : State → Batch → Admit → State
+admit_after s batch (Queued ticket) = queued batch s
+admit_after s batch answer = s
+
+-- ---- outcomes
+
+abbrev pub outcome_kept : ℕ → List (ℕ × Outcome) → Option Outcome
+outcome_kept ticket outcomes = option_map (λ entry. entry.1) (find (λ entry. entry.0 == ticket) outcomes)
+
+-- whether the ticket's batch waits, or its group is in flight
+abbrev pub is_on_its_way : ℕ → State → Bool
+is_on_its_way ticket s =
+    list_any (λ other. other == ticket) (tickets_of_group s.jobs.write.running ++ map (λ member. member.ticket) s.writing.waiting)
+
+-- what is told of a ticket
+abbrev pub outcome_of : State → ℕ → Outcome
+outcome_of s ticket = unwrap_or (outcome_kept ticket s.writing.outcomes) (if is_on_its_way ticket s then outcome.Waiting else outcome.Unknown)
+
+-- an outcome is handed out once
+abbrev pub without_outcome : ℕ → State → State
+without_outcome ticket s = record s { writing = record s.writing { outcomes = filter (λ entry. not (entry.0 == ticket)) s.writing.outcomes } }

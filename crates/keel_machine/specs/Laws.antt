@@ -1,0 +1,20 @@
+-- Facts of the machine.
+use Rattle.std.specs.Prelude.{◌≡◌, ◌⊎◌, ℕ, Option, Some}
+use Rattle.keel_base.specs.Counts.{raised}
+use Rattle.keel_base.specs.declared.failure.Failure.{Failure}
+use Rattle.keel_base.specs.declared.op.Batch.{Batch}
+use Rattle.keel_machine.specs.declared.answers.Admit.TheVariants.{Queued}
+use Rattle.keel_machine.specs.declared.steps.WriteStep.{WriteStep}
+use Rattle.keel_machine.specs.Admission.{standing, AdmitAnswers}
+use Rattle.keel_machine.specs.States.{State, Seen}
+use Rattle.keel_machine.specs.WritingAfter.{WriteAnswers}
+
+-- A write step makes one changing call of the device at most.
+abbrev pub OneCallAStep : Type 0
+OneCallAStep =
+    (s : State) (held : Option ℕ) (step : WriteStep) (device : Seen) → WriteAnswers s held step device
+    → (device.changes ≡ s.device.changes) ⊎ (device.changes ≡ raised s.device.changes)
+
+-- While a failure stands, no batch is queued.
+abbrev pub FailureStops : Type 0
+FailureStops = (s : State) (failure : Failure) (batch : Batch) (ticket : ℕ) → standing s ≡ Some failure → AdmitAnswers s batch (Queued ticket) → ⊥

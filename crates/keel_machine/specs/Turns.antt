@@ -1,0 +1,53 @@
+-- The turns of the machine: from a state, a call may be answered so and leave that state.
+use Rattle.std.specs.Prelude.{◌≡◌, ℕ, List, [], ◌∷◌, None, Option, Result}
+use Rattle.keel_base.specs.declared.op.Batch.{Batch}
+use Rattle.keel_machine.specs.declared.answers.Admit.{Admit}
+use Rattle.keel_machine.specs.declared.answers.Got.{Got}
+use Rattle.keel_machine.specs.declared.answers.OpenRefusal.{OpenRefusal}
+use Rattle.keel_machine.specs.declared.answers.Outcome.{Outcome}
+use Rattle.keel_machine.specs.declared.steps.WriteStep.{WriteStep}
+use Rattle.keel_machine.specs.Admission.{AdmitAnswers, admit_after, outcome_of, without_outcome}
+use Rattle.keel_machine.specs.Opening.{OpenAnswers, open_after, finished}
+use Rattle.keel_machine.specs.Outside.{IsQuiet}
+use Rattle.keel_machine.specs.Reads.{GetAnswers}
+use Rattle.keel_machine.specs.States.{State, Seen, with_device}
+use Rattle.keel_machine.specs.WritingAfter.{WriteAnswers, write_after}
+
+-- a call of the machine with its answer
+pub data Event : Type 0 where
+  Opening : Result ℕ OpenRefusal → Event
+  Admitting : Batch → Admit → Event
+  Writing : Option ℕ → WriteStep → Event
+  TakingOutcome : ℕ → Outcome → Event
+  Getting : List ℕ → Got → Event
+  Finishing : Event
+
+-- each answer with its exact cause, and what the device then shows
+abbrev pub Answers : State → Event → Seen → Type 0
+Answers s (Opening answer) device = OpenAnswers s answer device
+Answers s (Admitting batch answer) device = AdmitAnswers s batch answer × (device ≡ s.device)
+Answers s (Writing held step) device = WriteAnswers s held step device
+Answers s (TakingOutcome ticket outcome) device = (outcome ≡ outcome_of s ticket) × (device ≡ s.device)
+Answers s (Getting key got) device = GetAnswers s key got × IsQuiet s.device None device
+Answers s Finishing device = device ≡ s.device
+
+-- the state behind the call, but for the device
+abbrev pub behind : State → Event → State
+behind s (Opening answer) = open_after s answer
+behind s (Admitting batch answer) = admit_after s batch answer
+behind s (Writing held step) = write_after s step
+behind s (TakingOutcome ticket outcome) = without_outcome ticket s
+behind s (Getting key got) = s
+behind s Finishing = finished s
+
+-- the state behind the call, with what the device then shows
+abbrev pub after : State → Event → Seen → State
+after s event device = with_device device (behind s event)
+
+abbrev pub Turn : State → Event → State → Type 0
+Turn s event next = Answers s event next.device × (next ≡ after s event next.device)
+
+-- turns in order from one state to another
+abbrev pub Turns : State → List Event → State → Type 0
+Turns s [] last = last ≡ s
+Turns s (event ∷ rest) last = (mid : State) × Turn s event mid × Turns mid rest last

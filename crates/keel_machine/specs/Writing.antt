@@ -1,0 +1,111 @@
+-- The write step: when it rests, and the call that it makes.
+use Rattle.std.specs.Prelude.{ℕ, ◌+◌, ◌^◌, ◌==◌, nat_le, not, ◌&&◌, Bool, true, false, List, [], ◌∷◌, ◌++◌, length, Option, Some, None, if◌then◌else◌, option_map, unwrap_or, is_some}
+use Rattle.keel_base.specs.declared.failure.Call.{Call}
+use Rattle.keel_base.specs.declared.failure.Call.TheVariants as call
+use Rattle.keel_base.specs.declared.failure.Counter.TheVariants.{FileNumber, JobNumber}
+use Rattle.keel_base.specs.declared.failure.Failure.{Failure}
+use Rattle.keel_base.specs.declared.file_name.FileName.TheVariants.{Log}
+use Rattle.keel_base.specs.declared.op.Batch.{Batch}
+use Rattle.keel_batch.specs.Spelling.{spelling}
+use Rattle.keel_disk.specs.declared.change.Change.{Change}
+use Rattle.keel_disk.specs.declared.change.Change.TheVariants as change
+use Rattle.keel_frag.specs.Writing.{records_bytes}
+use Rattle.keel_machine.specs.declared.steps.WriteStep.{WriteStep}
+use Rattle.keel_machine.specs.declared.steps.WriteStep.TheVariants.{Idle, Turned, Spent, Cancelled}
+use Rattle.keel_machine.specs.Admission.{standing, last_seq}
+use Rattle.keel_machine.specs.States.{State, OwnLog, Ticketed, Group, Act, MakeLog, SyncDirectory, AddRecords, SyncLog}
+use Rattle.keel_machine.specs.Tests.{first_some, when, differing}
+
+-- ---- groups
+
+-- The calls of a group: without a log of its own the store first makes one, and its name firm.
+abbrev pub group_plan : Bool → Bool → List Act
+group_plan has_log sync =
+    (if has_log then [] else MakeLog ∷ SyncDirectory ∷ []) ++ AddRecords ∷ (if sync then SyncLog ∷ [] else [])
+
+-- a group is one batch
+abbrev pub formed : Ticketed → State → Group
+formed member s = record {
+  tickets = member.ticket ∷ [];
+  batches = member.batch ∷ [];
+  log = None;
+  left = group_plan (is_some s.log) member.batch.sync;
+}
+
+-- the group of the queue's first batch is in flight
+abbrev pub started : List Ticketed → State → State
+started [] s = s
+started (first ∷ rest) s = record s {
+  jobs = record { write = record { number = s.jobs.write.number + 1; running = Some (formed first s) } };
+  writing = record s.writing { waiting = rest };
+}
+
+abbrev pub started_or : Option Group → State → State
+started_or None s = started s.writing.waiting s
+started_or (Some group) s = s
+
+-- the state in which a group makes its next call: the one in flight, or the first of the queue
+abbrev pub ready : State → State
+ready s = started_or s.jobs.write.running s
+
+-- ---- rests and refusals
+
+abbrev pub turned_away : State → Failure → WriteStep
+turned_away s failure = Turned (length s.writing.waiting) failure
+
+-- without a group in flight, in the order of the tests
+abbrev pub rest_before_group : State → Option WriteStep
+rest_before_group s = first_some (
+    when (length s.writing.waiting == 0) Idle
+    ∷ option_map (turned_away s) (standing s)
+    ∷ when (nat_le (2 ^ 56) s.jobs.write.number) (Spent JobNumber)
+    ∷ when (not (is_some s.log) && nat_le (2 ^ 56) s.numbers.next_file) (Spent FileNumber)
+    ∷ [])
+
+abbrev pub draws : List Act → Bool
+draws (MakeLog ∷ later) = true
+draws _ = false
+
+-- with that group in flight
+abbrev pub rest_in_group : State → Option Group → Option WriteStep
+rest_in_group s None = rest_before_group s
+rest_in_group s (Some group) = when (draws group.left && nat_le (2 ^ 56) s.numbers.next_file) (Spent FileNumber)
+
+abbrev pub cancelled : State → ℕ → WriteStep
+cancelled s held = Cancelled held s.jobs.write.number
+
+-- the step's answer where it makes no call
+abbrev pub write_rest : State → Option ℕ → Option WriteStep
+write_rest s held = first_some (
+    option_map (cancelled s) (differing held s.jobs.write.number)
+    ∷ rest_in_group s s.jobs.write.running
+    ∷ [])
+
+-- ---- calls
+
+abbrev pub call_of : Act → Call
+call_of MakeLog = call.Create
+call_of SyncDirectory = call.SyncDir
+call_of AddRecords = call.Append
+call_of SyncLog = call.Sync
+
+abbrev pub log_number : State → ℕ
+log_number s = unwrap_or (option_map (λ (log : OwnLog). log.number) s.log) 0
+
+abbrev pub log_size : State → ℕ
+log_size s = unwrap_or (option_map (λ (log : OwnLog). log.size) s.log) 0
+
+-- the payloads of batches whose ops are numbered from a sequence on
+abbrev pub payloads_from : ℕ → List Batch → List (List ℕ)
+payloads_from seq [] = []
+payloads_from seq (batch ∷ rest) = spelling seq batch.ops ∷ payloads_from (seq + length batch.ops) rest
+
+-- the bytes that a group appends: one record for each batch, numbered behind the last published op
+abbrev pub group_bytes : State → Group → List ℕ
+group_bytes s group = records_bytes (log_size s) (payloads_from (last_seq s + 1) group.batches)
+
+abbrev pub change_of : State → Group → Act → Change
+change_of s group MakeLog = change.Create (Log s.numbers.next_file)
+change_of s group SyncDirectory = change.SyncDir
+change_of s group AddRecords = change.Append (Log (log_number s)) (group_bytes s group)
+change_of s group SyncLog = change.Sync (Log (log_number s))

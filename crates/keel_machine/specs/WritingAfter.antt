@@ -1,0 +1,180 @@
+-- What a write step answers behind its call, and what it leaves.
+use Rattle.std.specs.Prelude.{◌≡◌, ℕ, ◌+◌, Bool, true, false, List, [], ◌∷◌, ◌++◌, length, map, Option, Some, None, if◌then◌else◌}
+use Rattle.keel_base.specs.declared.failure.Call.{Call}
+use Rattle.keel_base.specs.declared.failure.Fault.{Fault}
+use Rattle.keel_base.specs.declared.failure.Failure.{Failure}
+use Rattle.keel_base.specs.declared.failure.Reason.TheVariants.{Wal}
+use Rattle.keel_base.specs.declared.op.Op.{Op}
+use Rattle.keel_machine.specs.declared.answers.Outcome.{Outcome}
+use Rattle.keel_machine.specs.declared.answers.Outcome.TheVariants as outcome
+use Rattle.keel_machine.specs.declared.steps.WriteStep.{WriteStep}
+use Rattle.keel_machine.specs.declared.steps.WriteStep.TheVariants.{Moved, Done, Failed, Turned, OutOfMemory}
+use Rattle.keel_machine.specs.Admission.{ops_of, last_seq}
+use Rattle.keel_machine.specs.Outside.{Calls, IsQuiet, as_answer}
+use Rattle.keel_machine.specs.States.{State, Seen, Story, OwnLog, Group, Act, MakeLog, SyncDirectory, AddRecords, SyncLog}
+use Rattle.keel_machine.specs.Writing.{ready, write_rest, call_of, change_of, group_bytes}
+
+-- ---- parts of the next state
+
+-- tickets get this outcome
+abbrev pub settled : List ℕ → Outcome → State → State
+settled tickets outcome s = record s { writing = record s.writing { outcomes = s.writing.outcomes ++ map (λ ticket. (ticket, outcome)) tickets } }
+
+abbrev pub with_group : Option Group → State → State
+with_group running s = record s { jobs = record { write = record s.jobs.write { running = running } } }
+
+-- batches were handed to a log
+abbrev pub handed_over : List (List Op) → Story → Story
+handed_over batches story = record story { limbo = story.limbo ++ batches }
+
+-- what is in limbo is published; behind a sync none of it must be lost
+abbrev pub story_published : Bool → Story → Story
+story_published sync story = record {
+  start = story.start;
+  log = story.log ++ story.limbo;
+  limbo = [];
+  floor = if sync then length (story.log ++ story.limbo) else story.floor;
+}
+
+-- the group's batches are published, and the group is over
+abbrev pub published : Bool → Group → State → State
+published sync group s =
+    let s1 : State = with_group None (record s { story = story_published sync s.story }) in
+    settled group.tickets (outcome.Done (last_seq s1)) s1
+
+-- the group goes on with the calls that are left, or is published behind the last one
+abbrev pub goes_on : Bool → Group → List Act → State → State
+goes_on sync group [] s = published sync group s
+goes_on sync group (act ∷ later) s = with_group (Some (record group { left = act ∷ later })) s
+
+abbrev pub file_drawn : State → State
+file_drawn s = record s { numbers = record { next_file = s.numbers.next_file + 1 } }
+
+-- a log is longer by so many bytes
+abbrev pub log_longer : ℕ → Option OwnLog → Option OwnLog
+log_longer more None = None
+log_longer more (Some own) = Some (record own { size = own.size + more })
+
+-- the store's own log is the one that the group made
+abbrev pub own_log : Option ℕ → Option OwnLog
+own_log None = None
+own_log (Some number) = Some (record { number = number; size = 0 })
+
+-- the state behind a call of the group that was answered Ok, with the calls left behind it
+abbrev pub act_done : Act → Group → List Act → State → State
+act_done MakeLog group later s = goes_on false (record group { log = Some s.numbers.next_file }) later (file_drawn s)
+act_done SyncDirectory group later s = goes_on false (record group { log = None }) later (record s { log = own_log group.log })
+act_done AddRecords group later s =
+    goes_on false (record group { batches = [] }) later (record s {
+      log = log_longer (length (group_bytes s group)) s.log;
+      story = handed_over (ops_of group.batches) s.story;
+    })
+act_done SyncLog group later s = goes_on true group later s
+
+-- what a call leaves of the state though it failed: a number is used up, batches may be found in the log
+abbrev pub act_tried : Act → Group → State → State
+act_tried MakeLog group s = file_drawn s
+act_tried AddRecords group s = record s { story = handed_over (ops_of group.batches) s.story }
+act_tried act group s = s
+
+abbrev pub failure_of : Fault → Failure
+failure_of fault = record { reason = Wal; fault = fault }
+
+abbrev pub noted : Failure → State → State
+noted failure s = record s { failing = record { failures = s.failing.failures ++ failure ∷ [] } }
+
+-- the state behind a call of the group that failed: the group is over, unpublished
+abbrev pub act_failed : Act → Group → Failure → State → State
+act_failed act group failure s = noted failure (settled group.tickets (outcome.Failed failure) (with_group None (act_tried act group s)))
+
+-- the queue is empty, and its tickets are turned away
+abbrev pub queue_turned : Failure → State → State
+queue_turned failure s =
+    settled (map (λ member. member.ticket) s.writing.waiting) (outcome.Turned failure) (record s { writing = record s.writing { waiting = [] } })
+
+-- ---- answers
+
+-- In this state a call is made: the group's first one that is left, with the ones behind it.
+pub record Makes (s : State) (held : Option ℕ) (group : Group) (act : Act) (later : List Act) : Type 0 where
+  pub no_rest : write_rest s held ≡ None
+  pub group_is : (ready s).jobs.write.running ≡ Some group
+  pub next : group.left ≡ act ∷ later
+
+-- a call of a group was made and answered so
+pub record MadeCall (s : State) (held : Option ℕ) (group : Group) (act : Act) (later : List Act) (failed : Option Fault) (device : Seen) : Type 0 where
+  pub makes : Makes s held group act later
+  pub calls : Calls s.device (change_of (ready s) group act) (as_answer failed) device
+
+pub record IsMove (s : State) (held : Option ℕ) (job : ℕ) (call : Call) (device : Seen) : Type 0 where
+  pub group : Group
+  pub act : Act
+  pub next : Act
+  pub later : List Act
+  pub made : MadeCall s held group act (next ∷ later) None device
+  pub job_is : job ≡ (ready s).jobs.write.number
+  pub call_is : call ≡ call_of act
+
+-- the state behind the first call that the group has left, answered Ok or failed
+abbrev pub first_done : Group → List Act → State → State
+first_done group [] s = s
+first_done group (act ∷ later) s = act_done act group later s
+
+abbrev pub group_done : Option Group → State → State
+group_done None s = s
+group_done (Some group) s = first_done group group.left s
+
+abbrev pub first_failed : Group → List Act → Failure → State → State
+first_failed group [] failure s = s
+first_failed group (act ∷ later) failure s = act_failed act group failure s
+
+abbrev pub group_failed : Option Group → Failure → State → State
+group_failed None failure s = s
+group_failed (Some group) failure s = first_failed group group.left failure s
+
+abbrev pub call_done : State → State
+call_done s = group_done (ready s).jobs.write.running (ready s)
+
+abbrev pub call_failed : Failure → State → State
+call_failed failure s = group_failed (ready s).jobs.write.running failure (ready s)
+
+pub record IsEnd (s : State) (held : Option ℕ) (job seq batches : ℕ) (device : Seen) : Type 0 where
+  pub group : Group
+  pub act : Act
+  pub made : MadeCall s held group act [] None device
+  pub job_is : job ≡ (ready s).jobs.write.number
+  pub seq_is : seq ≡ last_seq (call_done s)
+  pub batches_is : batches ≡ length group.tickets
+
+pub record IsFailure (s : State) (held : Option ℕ) (failure : Failure) (device : Seen) : Type 0 where
+  pub group : Group
+  pub act : Act
+  pub later : List Act
+  pub fault : Fault
+  pub made : MadeCall s held group act later (Some fault) device
+  pub failure_is : failure ≡ failure_of fault
+
+-- a rest or a refusal comes as the first test that holds says
+pub record IsRest (s : State) (held : Option ℕ) (step : WriteStep) (device : Seen) : Type 0 where
+  pub first : write_rest s held ≡ Some step
+  pub quiet : IsQuiet s.device None device
+
+-- memory may be wanting where a call was to be made, and then none was
+pub record IsWant (s : State) (held : Option ℕ) (device : Seen) : Type 0 where
+  pub no_rest : write_rest s held ≡ None
+  pub quiet : IsQuiet s.device None device
+
+-- each answer of a write step with its cause
+abbrev pub WriteAnswers : State → Option ℕ → WriteStep → Seen → Type 0
+WriteAnswers s held (Moved job call) device = IsMove s held job call device
+WriteAnswers s held (Done job seq batches) device = IsEnd s held job seq batches device
+WriteAnswers s held (Failed failure) device = IsFailure s held failure device
+WriteAnswers s held OutOfMemory device = IsWant s held device
+WriteAnswers s held step device = IsRest s held step device
+
+-- the state behind a write step, but for the device
+abbrev pub write_after : State → WriteStep → State
+write_after s (Moved job call) = call_done s
+write_after s (Done job seq batches) = call_done s
+write_after s (Failed failure) = call_failed failure s
+write_after s (Turned batches failure) = queue_turned failure s
+write_after s step = s

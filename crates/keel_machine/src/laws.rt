@@ -1,0 +1,23 @@
+// Facts of the machine, each as the contract of a function.
+ghost use Rattle.keel_machine.specs.Laws.{FailureStops, OneCallAStep};
+ghost use Rattle.keel_machine.specs.WorkedRows.{FirstPut, SecondPut};
+
+/// A write step makes one changing call of the device at most.
+pub fn one_call_a_step()
+    ensures { OneCallAStep }
+{}
+
+/// While a failure stands, no batch is queued.
+pub fn failure_stops()
+    ensures { FailureStops }
+{}
+
+/// The calls of the first put.
+pub fn first_put()
+    ensures { FirstPut }
+{}
+
+/// The calls of a second put.
+pub fn second_put()
+    ensures { SecondPut }
+{}
