@@ -1,0 +1,9 @@
+pub mod Lookups
+pub mod Stories
+pub mod Calling
+pub mod Standing
+pub mod Ordering
+pub mod Appending
+pub mod Batches
+pub mod Resting
+pub mod Admitting

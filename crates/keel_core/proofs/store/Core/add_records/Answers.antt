@@ -1,0 +1,58 @@
+use Rattle.std.proofs.Common.{◌+◌, length, ap, sym, ◌∙◌}
+use Rattle.keel_base.specs.declared.file_name.FileName.TheVariants.{Log}
+use Rattle.keel_disk.specs.declared.change.Change.TheVariants.{Append}
+use Rattle.keel_core.specs.Views.{CoreView}
+use Rattle.keel_core.proofs.Appending.{records_moved_at, records_done_at, records_refused_at}
+use Rattle.keel_core.proofs.Standing.{want_at}
+use Rattle.keel_core.proofs.store.Core.add_records.Goals as goal
+
+pub returns-then-hand_over-clause-turn : goal.returns-then-hand_over-clause-turn
+returns-then-hand_over-clause-turn g c =
+    let w = c.self.inside in
+    let q = c.enter.ensures in
+    let stage = rw (← c.self.view_is) at c.requires.stage in
+    let some = rw (← c.self.view_is) at c.requires.some in
+    let bytes = c.as_slice.ensures ∙ (rw (← c.self.view_is) at c.in-Ok.ensures) in
+    let behind = c.in-Some.ensures.1 ∙ ap (λ n. c.args.size + n) (c.len.ensures ∙ ap length (sym c.as_slice.ensures)) in
+    let wants = (rw q.group at (sym c.hand_over.ensures.sync)) ∙ c.if-hand_over.true in
+    let job = ap (λ (v : CoreView). v.job) (c.self-then-hand_over.view_is ∙ c.hand_over.ensures.view) in
+    rw (← c.self.view_is, job, c.hand_over.ensures.view, q.waiting, q.group, q.job, q.outcomes, q.last_ticket)
+    (records_moved_at _ _ _ w.queue.outcomes.items w.queue.last_ticket w.standing c.as_slice.result.now c.args.number c.args.size c.in-Some.behind
+    w.log w.queue.waiting w.queue.group w.queue.job w.next_file stage some bytes behind wants
+    (record { leaves = c.in-Ok-append.ensures.step; count = c.in-Ok-append.ensures.count; cause = c.in-Ok-append.ensures.cause }))
+
+pub returns-in-Ok-append-clause-turn : goal.returns-in-Ok-append-clause-turn
+returns-in-Ok-append-clause-turn g c =
+    let w = c.self.inside in
+    let q = c.enter.ensures in
+    let stage = rw (← c.self.view_is) at c.requires.stage in
+    let some = rw (← c.self.view_is) at c.requires.some in
+    let bytes = c.as_slice.ensures ∙ (rw (← c.self.view_is) at c.in-Ok.ensures) in
+    let behind = c.in-Some.ensures.1 ∙ ap (λ n. c.args.size + n) (c.len.ensures ∙ ap length (sym c.as_slice.ensures)) in
+    let wants = (rw q.group at (sym c.hand_over.ensures.sync)) ∙ c.if-hand_over.false in
+    rw (← c.self.view_is, c.publish.ensures.step, c.publish.ensures.view, c.hand_over.ensures.view, q.waiting, q.group, q.job, q.outcomes, q.last_ticket)
+    (records_done_at _ _ _ w.queue.outcomes.items w.queue.last_ticket w.standing c.as_slice.result.now c.args.number c.args.size c.in-Some.behind
+    w.log w.queue.waiting w.queue.group w.queue.job w.next_file stage some bytes behind wants
+    (record { leaves = c.in-Ok-append.ensures.step; count = c.in-Ok-append.ensures.count; cause = c.in-Ok-append.ensures.cause }))
+
+pub returns-in-Err-Fault-clause-turn : goal.returns-in-Err-Fault-clause-turn
+returns-in-Err-Fault-clause-turn g c =
+    let w = c.self.inside in
+    let q = c.enter-in-Err-Fault.ensures in
+    let stage = rw (← c.self.view_is) at c.requires.stage in
+    let some = rw (← c.self.view_is) at c.requires.some in
+    let bytes = c.as_slice.ensures ∙ (rw (← c.self.view_is) at c.in-Ok.ensures) in
+    let behind = c.in-Some.ensures.1 ∙ ap (λ n. c.args.size + n) (c.len.ensures ∙ ap length (sym c.as_slice.ensures)) in
+    let answered = rw c.in-Err-Fault.field-0-is at c.in-Err-Fault.ensures in
+    rw (← c.self.view_is, c.fail.ensures.step, c.fail.ensures.view, c.hand_over-in-Err-Fault.ensures.view, q.waiting, q.group, q.job, q.outcomes, q.last_ticket)
+    (records_refused_at _ _ _ w.queue.outcomes.items w.queue.last_ticket w.standing c.as_slice.result.now c.args.number c.args.size c.in-Some.behind
+    w.log w.queue.waiting w.queue.group w.queue.job w.next_file stage some bytes behind c.in-Err-Fault.fault
+    (record { leaves = answered.step; count = answered.count; cause = answered.cause }))
+
+pub returns-clause-turn : goal.returns-clause-turn
+returns-clause-turn g c =
+    let w = c.self.inside in
+    let answered = rw c.in-Err-OutOfMemory.field-0-is at c.in-Err-OutOfMemory.ensures in
+    rw (← c.self.view_is)
+    (want_at _ _ _ w.queue.outcomes.items w.queue.last_ticket w.standing (Append (Log c.args.number) c.as_slice.result.now) w.log w.queue.waiting w.queue.group w.queue.job w.next_file
+    (record { leaves = answered.step; count = answered.count; cause = answered.cause }))

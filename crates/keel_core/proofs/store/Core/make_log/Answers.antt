@@ -1,0 +1,35 @@
+use Rattle.keel_base.specs.declared.file_name.FileName.TheVariants.{Log}
+use Rattle.keel_disk.specs.declared.change.Change.TheVariants.{Create}
+use Rattle.keel_core.proofs.Standing.{log_made_at, log_failed_at, want_at}
+use Rattle.keel_core.proofs.store.Core.make_log.Goals as goal
+
+pub returns-in-Ok-clause-turn : goal.returns-in-Ok-clause-turn
+returns-in-Ok-clause-turn g c =
+    let w = c.self.inside in
+    let stage = rw (← c.self.view_is) at c.requires.stage in
+    let can = rw (← c.self.view_is) at c.requires.can in
+    let q = c.enter.ensures in
+    rw (← c.self.view_is, q.waiting, q.group, q.job, q.outcomes, q.last_ticket)
+    (log_made_at _ _ _ w.queue.outcomes.items w.queue.last_ticket w.standing w.log w.queue.waiting w.queue.group w.queue.job w.next_file
+    stage c.self.invariant.staged can.some
+    (record { leaves = c.in-Ok.ensures.step; count = c.in-Ok.ensures.count; cause = c.in-Ok.ensures.cause }))
+
+pub returns-in-Err-Fault-clause-turn : goal.returns-in-Err-Fault-clause-turn
+returns-in-Err-Fault-clause-turn g c =
+    let w = c.self.inside in
+    let stage = rw (← c.self.view_is) at c.requires.stage in
+    let can = rw (← c.self.view_is) at c.requires.can in
+    let q = c.enter-in-Err-Fault.ensures in
+    let answered = rw c.in-Err-Fault.field-0-is at c.in-Err-Fault.ensures in
+    rw (← c.self.view_is, c.fail.ensures.view, c.fail.ensures.step, q.waiting, q.group, q.job, q.outcomes, q.last_ticket)
+    (log_failed_at _ _ _ w.queue.outcomes.items w.queue.last_ticket w.standing w.log w.queue.waiting w.queue.group w.queue.job w.next_file c.in-Err-Fault.fault
+    stage c.self.invariant.staged can.some
+    (record { leaves = answered.step; count = answered.count; cause = answered.cause }))
+
+pub returns-in-Err-OutOfMemory-clause-turn : goal.returns-in-Err-OutOfMemory-clause-turn
+returns-in-Err-OutOfMemory-clause-turn g c =
+    let w = c.self.inside in
+    let answered = rw c.in-Err-OutOfMemory.field-0-is at c.in-Err-OutOfMemory.ensures in
+    rw (← c.self.view_is)
+    (want_at _ _ _ w.queue.outcomes.items w.queue.last_ticket w.standing (Create (Log w.next_file)) w.log w.queue.waiting w.queue.group w.queue.job w.next_file
+    (record { leaves = answered.step; count = answered.count; cause = answered.cause }))

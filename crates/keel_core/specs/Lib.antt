@@ -1,0 +1,7 @@
+pub mod Optional
+pub mod Logs
+pub mod Trails
+pub mod Queues
+pub mod Orders
+pub mod Views
+pub mod Steps

@@ -1,0 +1,131 @@
+// The store: what it keeps, and the calls that make none of the device.
+ghost use Rattle.std.specs.Prelude.{◌≡◌, ◌<◌, [], Some, IsSome, IfSome};
+ghost use Rattle.keel_machine.specs.declared.answers.Outcome.TheVariants.{Waiting};
+ghost use Rattle.keel_machine.specs.Turns.{Admitting, Getting, TakingOutcome};
+ghost use Rattle.keel_core.specs.Orders.{IsAdmissible};
+ghost use Rattle.keel_core.specs.Views.{Turns, point_in, calls_left};
+
+use crate::log::OwnLog;
+use crate::lookup::latest_value;
+use crate::queue::{Queue, Ticketed};
+use crate::trail::Trail;
+use keel_base::{Batch, Bytes, Counter, Failure};
+use keel_disk::Disk;
+use keel_machine::{Admit, Got, Outcome};
+use std::alloc::Global;
+use std::marker::Model;
+
+/// The greatest sequence and ticket number, and what job and file numbers that are drawn stay below or reach.
+pub(crate) const LAST_NUMBER: u64 = 1 << 56;
+
+/// An open store over a device.
+#[derive(Drop)]
+pub struct Core<D: Disk> {
+    pub(crate) disk: D,
+    pub(crate) trail: Trail,
+    pub(crate) queue: Queue,
+    pub(crate) log: OwnLog,
+    // the sequence of the last published op, and of the last one that was handed to the log
+    pub(crate) last_seq: u64,
+    pub(crate) handed_seq: u64,
+    pub(crate) next_file: u64,
+    pub(crate) standing: Option<Failure>,
+}
+
+impl<D: Disk> Model for Core<D> {
+    ghost use Rattle.keel_machine.specs.Outside.{seen};
+    ghost use Rattle.keel_core.specs.Orders.{IsInOrder};
+    ghost use Rattle.keel_core.specs.Trails.{shown};
+    ghost use Rattle.keel_core.specs.Views.{CoreView};
+
+    ghost Value = { CoreView };
+
+    ghost view = { λ c. record {
+      device = seen (D.told c.disk) (D.changes c.disk) (D.faults c.disk) (D.last_fault c.disk);
+      trail = shown c.trail;
+      stage = c.log;
+      waiting = c.queue.waiting;
+      group = c.queue.group;
+      outcomes = c.queue.outcomes.items;
+      last_ticket = c.queue.last_ticket;
+      job = c.queue.job;
+      standing = c.standing;
+      next_file = c.next_file;
+    } };
+
+    ghost invariant = { λ c. IsInOrder c.trail c.queue c.log c.last_seq c.handed_seq c.next_file };
+}
+
+impl<D: Disk> Core<D> {
+    /// The sequence of the store's point: what the opening found, and then the last published one.
+    pub fn last_seq(&self) -> u64
+        ensures { result ≡ (point_in self.now).seq }
+    {
+        self.last_seq
+    }
+
+    /// The batches since the opening.
+    pub fn trail(&self) -> &Trail {
+        &self.trail
+    }
+
+    /// Takes a batch in, where nothing refuses it. A batch that isn't queued is dropped.
+    pub fn admit(&mut self, batch: Batch) -> Admit
+        requires { IsAdmissible batch }
+        ensures turn { Turns self.old (Admitting batch result) self.new }
+    {
+        match self.standing {
+            Some(failure) => return Admit::Stopped(failure),
+            None => {}
+        }
+        let ops = batch.ops.len() as u64;
+        if self.handed_seq + self.queue.ops_before() + ops > LAST_NUMBER {
+            return Admit::Spent(Counter::Sequence);
+        }
+        if self.queue.last_ticket >= LAST_NUMBER {
+            return Admit::Spent(Counter::Ticket);
+        }
+        if self.queue.waiting.is_some() {
+            return Admit::QueueFull { waiting: 1 };
+        }
+        if self.trail.reserve(2).is_err() || self.queue.reserve().is_err() {
+            return Admit::OutOfMemory;
+        }
+        let ticket = self.queue.last_ticket + 1;
+        self.queue.last_ticket = ticket;
+        self.queue.waiting = Some(Ticketed { ticket, batch });
+        Admit::Queued { ticket }
+    }
+
+    /// What became of a ticket. An outcome is handed out once.
+    pub fn take_outcome(&mut self, ticket: u64) -> Outcome
+        ensures turn { Turns self.old (TakingOutcome ticket result) self.new }
+        ensures waits { result ≡ Waiting → 0 < calls_left self.old }
+        ensures same { calls_left self.new ≡ calls_left self.old }
+    {
+        self.queue.take_outcome(ticket)
+    }
+
+    /// The value of a key among the published batches.
+    pub fn get(&mut self, alloc: Global, key: &[u8]) -> Got
+        ensures turn { Turns self.old (Getting key.now result) self.new }
+    {
+        match latest_value(self.trail.log(), key) {
+            Some(value) => match Bytes::from_slice(alloc, value) {
+                Ok(copy) => Got::Value(copy),
+                Err(_) => Got::OutOfMemory,
+            },
+            None => Got::Absent,
+        }
+    }
+
+    /// Hands the device back. It makes no call.
+    pub fn finish(self) -> D
+        ensures told { D.told result ≡ self.device.told }
+        ensures changes { D.changes result ≡ self.device.changes }
+        ensures faults { D.faults result ≡ self.device.faults }
+        ensures last_fault { D.last_fault result ≡ self.device.last_fault }
+    {
+        self.disk
+    }
+}

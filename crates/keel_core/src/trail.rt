@@ -1,0 +1,82 @@
+// The batches since the opening.
+ghost use Rattle.std.specs.Prelude.{◌≡◌, ◌+◌, ◌<◌, ◌≤◌, vec_len, vec_capacity, OnOk};
+
+use keel_base::Batch;
+use std::alloc::{AllocError, Global};
+
+/// The batches that were handed to the store's log since the opening, and how many of them are published.
+#[derive(Drop)]
+pub struct Trail {
+    batches: Vec<Batch>,
+    published: usize,
+    floor: usize,
+    ghost within: { published ≤ vec_len batches },
+    ghost held: { floor ≤ published },
+}
+
+impl Trail {
+    ghost use Rattle.keel_core.specs.Trails.{TrailShown, shown, handed, published as all_published, IsEmptyTrail};
+
+    pub(crate) fn new(alloc: Global) -> Trail
+        ensures { IsEmptyTrail result }
+    {
+        Trail {
+            batches: Vec::new(alloc),
+            published: 0,
+            floor: 0,
+        }
+    }
+
+    /// The published batches, in their order.
+    pub fn log(&self) -> &[Batch]
+        ensures { result.now ≡ (shown self.now).log }
+    {
+        &self.batches.as_slice()[..self.published]
+    }
+
+    /// The batches that were handed to the log and aren't published.
+    pub fn limbo(&self) -> &[Batch]
+        ensures { result.now ≡ (shown self.now).limbo }
+    {
+        &self.batches.as_slice()[self.published..]
+    }
+
+    /// How many of the published batches must not be lost.
+    pub fn floor(&self) -> usize
+        ensures { result ≡ (shown self.now).floor }
+    {
+        self.floor
+    }
+
+    /// Takes the memory for so many batches more.
+    pub(crate) fn reserve(&mut self, count: usize) -> Result<(), AllocError>
+        ensures same { shown self.new ≡ shown self.old }
+        ensures count { vec_len self.new.batches ≡ vec_len self.old.batches }
+        ensures room { vec_capacity self.old.batches ≤ vec_capacity self.new.batches }
+        ensures ok { OnOk result (vec_len self.new.batches + count ≤ vec_capacity self.new.batches) }
+    {
+        self.batches.reserve(count)
+    }
+
+    /// A batch was handed to the log.
+    pub(crate) fn hand(&mut self, batch: Batch)
+        requires { vec_len self.old.batches < vec_capacity self.old.batches }
+        ensures shown { shown self.new ≡ handed batch (shown self.old) }
+        ensures count { vec_len self.new.batches ≡ vec_len self.old.batches + 1 }
+        ensures room { vec_capacity self.new.batches ≡ vec_capacity self.old.batches }
+    {
+        self.batches.push_reserved(batch);
+    }
+
+    /// What is in limbo is published. Behind a sync none of it must be lost.
+    pub(crate) fn publish(&mut self, sync: bool)
+        ensures shown { shown self.new ≡ all_published sync (shown self.old) }
+        ensures count { vec_len self.new.batches ≡ vec_len self.old.batches }
+        ensures room { vec_capacity self.new.batches ≡ vec_capacity self.old.batches }
+    {
+        self.published = self.batches.len();
+        if sync {
+            self.floor = self.published;
+        }
+    }
+}
