@@ -3,9 +3,9 @@ use Rattle.std.proofs.Common.{◌≡◌, ℕ, zero, suc, ◌+◌, ◌≤◌, Lis
 use Rattle.std.proofs.lemmas.List.{take_at, take-append-drop, length-append, length-take}
 use Rattle.keel_frag.specs.declared.record.LogRecord.{LogRecord}
 use Rattle.keel_frag.specs.Pieces.{Progress, start, after_all}
-use Rattle.keel_frag.specs.Reading.{AreLaidOn, IsWholeLog}
+use Rattle.keel_frag.specs.Reading.{AreLaidOn, IsWholeLog, AreRecords}
 use Rattle.keel_frag.specs.Writing.{first_place, record_bytes, records_bytes, records_at}
-use Rattle.keel_frag.specs.Images.{IsFrontOf, IsTornFrom, TornRecords}
+use Rattle.keel_frag.specs.Images.{IsImage, IsPlain, IsFrontOf, IsTornFrom, HoldsFirst, TornRecords}
 use Rattle.keel_frag.proofs.Laying.{laid_on_longer}
 use Rattle.keel_frag.proofs.Continuing.{making, going_on}
 use Rattle.keel_frag.proofs.Torn.{torn}
@@ -41,15 +41,19 @@ module _ (payloads : List (List ℕ)) where
       let front : IsFrontOf (after_all start h.pieces).done found = t.firm_found h.pieces (first_laid written h) (omega arith) in
       omega (arith, ap length front.1, length-append (after_all start h.pieces).done front.0, ap length done, length-records_at 0 (take written payloads), length-take written payloads)
 
+  pub first_held : (firm : ℕ) (image : List ℕ) (found : List LogRecord) (end : ℕ)
+      → IsImage firm (records_bytes 0 payloads) image → IsPlain (records_bytes 0 payloads) image → AreRecords image found end → HoldsFirst firm payloads found
+  first_held firm image found end is_image plain records =
+      let read : Progress = record { place = length (records_bytes 0 payloads); done = records_at 0 payloads; begun = None } in
+      let t = torn firm (records_bytes 0 payloads) image read found end (making payloads) refl is_image plain records in
+      let front : IsFrontOf found (records_at 0 payloads) = t.meant_all in
+      record {
+        count = length found;
+        within = omega (arith, ap length front.1, length-append found front.0, length-records_at 0 payloads);
+        found_are = sym (take_at found front.0 (length found) refl) ∙ ap (take (length found)) (sym front.1) ∙ take-records_at (length found) 0 payloads;
+        firm_found = λ written within fits. firm_written firm written found t within fits;
+      }
+
 pub torn_records : TornRecords
-torn_records firm payloads image found end is_image plain records =
-    let written = making payloads in
-    let read : Progress = record { place = length (records_bytes 0 payloads); done = records_at 0 payloads; begun = None } in
-    let t = torn firm (records_bytes 0 payloads) image read found end written refl is_image plain records in
-    let front : IsFrontOf found (records_at 0 payloads) = t.meant_all in
-    record {
-      count = length found;
-      within = omega (arith, ap length front.1, length-append found front.0, length-records_at 0 payloads);
-      found_are = sym (take_at found front.0 (length found) refl) ∙ ap (take (length found)) (sym front.1) ∙ take-records_at (length found) 0 payloads;
-      firm_found = λ written within fits. firm_written payloads firm written found t within fits;
-    }
+torn_records firm payloads meant image found end e is_image plain records =
+    first_held payloads firm image found end (subst (λ (m : List ℕ). IsImage firm m image) e is_image) (subst (λ (m : List ℕ). IsPlain m image) e plain) records
