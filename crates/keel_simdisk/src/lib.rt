@@ -27,3 +27,6 @@ mod spelled;
 mod tree;
 
 pub use sim_disk::SimDisk;
+
+#[cfg(test)]
+mod tests;
