@@ -4,6 +4,7 @@ pub mod Names
 pub mod Options
 pub mod Parts
 pub mod Reading
+pub mod Replies
 pub mod Texts
 pub mod Verbs
 pub mod Words

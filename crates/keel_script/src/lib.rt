@@ -8,6 +8,7 @@
 //! - `laws` has what follows for the language: a line says one command, and each command's own line says it.
 #![tactic(auto)]
 
+mod answering;
 mod arguments;
 mod command;
 pub mod laws;
@@ -21,6 +22,7 @@ mod text;
 mod verb;
 mod words;
 
+pub use answering::print_reply;
 pub use command::{Command, LineError};
 pub use option_name::{OptionName, Range};
 pub use printing::print_command;

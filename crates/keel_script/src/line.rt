@@ -32,15 +32,21 @@ pub fn with_number(alloc: Global, line: Bytes, number: u128) -> Result<Bytes, Ou
     with_word(line, digits.as_bytes())
 }
 
-/// The head, and a space and a number for each.
-pub fn numbers(alloc: Global, head: &[u8], numbers: &[u128]) -> Result<Bytes, OutOfMemory>
-    ensures { IfOk result (λ line. line ≡ head.now ++ flat_map (λ n. 32 ∷ decimal n) numbers.now) }
+/// The line with a space and a number at its end for each of these.
+pub fn with_numbers(alloc: Global, mut line: Bytes, numbers: &[u128]) -> Result<Bytes, OutOfMemory>
+    ensures { IfOk result (λ longer. longer ≡ line ++ flat_map (λ n. 32 ∷ decimal n) numbers.now) }
 {
-    let mut line = start(alloc, head)?;
     for number in numbers {
         line = with_number(alloc, line, *number)?;
     }
     Ok(line)
+}
+
+/// A line of this beginning and of numbers.
+pub fn numbers(alloc: Global, head: &[u8], numbers: &[u128]) -> Result<Bytes, OutOfMemory>
+    ensures { IfOk result (λ line. line ≡ head.now ++ flat_map (λ n. 32 ∷ decimal n) numbers.now) }
+{
+    with_numbers(alloc, start(alloc, head)?, numbers)
 }
 
 /// The line with a space and a text at its end.
@@ -79,5 +85,9 @@ fn digit(value: u8) -> u8
     requires { value < 16 }
     ensures { result ≡ digit_glyph true value }
 {
-    if value < 10 { b'0' + value } else { b'A' + (value - 10) }
+    if value < 10 {
+        b'0' + value
+    } else {
+        b'A' + (value - 10)
+    }
 }

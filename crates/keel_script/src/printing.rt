@@ -8,7 +8,7 @@ ghost use Rattle.keel_script.specs.Parts.{printed_parts};
 ghost use Rattle.keel_script.specs.Parts.Part.{Text};
 
 use crate::Command;
-use crate::line::{numbers, start, with_number, with_text, with_word};
+use crate::line::{numbers, start, with_number, with_numbers, with_text, with_word};
 use crate::names::{call_name, fault_name};
 use keel_base::{Bytes, Call, Fault, OutOfMemory};
 use std::alloc::Global;
@@ -20,32 +20,62 @@ pub fn print_command(alloc: Global, command: &Command) -> Result<Bytes, OutOfMem
     match command {
         Command::SetOption { name, value } => {
             let line = with_word(start(alloc, b"option")?, name.name())?;
-            with_number(alloc, line, u128::from(*value))
+            with_number(alloc, line, *value as u128)
         }
         Command::Open => start(alloc, b"open"),
         Command::Put { key, value, sync } => put(start(alloc, b"put")?, key, value, *sync),
         Command::Del { key, sync } => del(start(alloc, b"del")?, key, *sync),
-        Command::QueuePut { client, key, value, sync } => put(queued(alloc, *client, b"put")?, key, value, *sync),
+        Command::QueuePut {
+            client,
+            key,
+            value,
+            sync,
+        } => put(queued(alloc, *client, b"put")?, key, value, *sync),
         Command::QueueDel { client, key, sync } => del(queued(alloc, *client, b"del")?, key, *sync),
         Command::Write => start(alloc, b"write"),
         Command::Flush => start(alloc, b"flush"),
-        Command::Compact { slot } => numbers(alloc, b"compact", &[u128::from(*slot)]),
+        Command::Compact { slot } => numbers(alloc, b"compact", &[*slot as u128]),
         Command::Delete => start(alloc, b"delete"),
         Command::Resume => start(alloc, b"resume"),
         Command::ResumeStep => start(alloc, b"resume-step"),
-        Command::Drain { moves } => numbers(alloc, b"drain", &[u128::from(*moves)]),
-        Command::Tick { ticks } => numbers(alloc, b"tick", &[u128::from(*ticks)]),
+        Command::Drain { moves } => numbers(alloc, b"drain", &[*moves as u128]),
+        Command::Tick { ticks } => numbers(alloc, b"tick", &[*ticks as u128]),
         Command::Get { key } => with_text(start(alloc, b"get")?, key),
         Command::Scan { from, to } => with_text(with_text(start(alloc, b"scan")?, from)?, to),
         Command::Error => start(alloc, b"error"),
         Command::Space => start(alloc, b"space"),
         Command::Files => start(alloc, b"files"),
         Command::Levels => start(alloc, b"levels"),
-        Command::Limit { limit } => numbers(alloc, b"limit", &[u128::from(*limit)]),
+        Command::Limit { limit } => numbers(alloc, b"limit", &[*limit as u128]),
         Command::Close => start(alloc, b"close"),
-        Command::Fail { call, fault, skip, times, keep } => fail(alloc, *call, *fault, &[u128::from(*skip), u128::from(*times), u128::from(*keep)]),
-        Command::Capacity { bytes } => numbers(alloc, b"capacity", &[u128::from(*bytes)]),
-        Command::Crash { dirops, keep, garbage, seed } => numbers(alloc, b"crash", &[u128::from(*dirops), u128::from(*keep), u128::from(*garbage), u128::from(*seed)]),
+        Command::Fail {
+            call,
+            fault,
+            skip,
+            times,
+            keep,
+        } => fail(
+            alloc,
+            *call,
+            *fault,
+            &[*skip as u128, *times as u128, *keep as u128],
+        ),
+        Command::Capacity { bytes } => numbers(alloc, b"capacity", &[*bytes as u128]),
+        Command::Crash {
+            dirops,
+            keep,
+            garbage,
+            seed,
+        } => numbers(
+            alloc,
+            b"crash",
+            &[
+                *dirops as u128,
+                *keep as u128,
+                *garbage as u128,
+                *seed as u128,
+            ],
+        ),
     }
 }
 
@@ -53,7 +83,7 @@ pub fn print_command(alloc: Global, command: &Command) -> Result<Bytes, OutOfMem
 fn queued(alloc: Global, client: u8, write: &[u8]) -> Result<Bytes, OutOfMemory>
     ensures { IfOk result (λ line. line ≡ codes "queue" ++ 32 ∷ decimal client ++ 32 ∷ write.now) }
 {
-    let line = with_number(alloc, start(alloc, b"queue")?, u128::from(client))?;
+    let line = with_number(alloc, start(alloc, b"queue")?, client as u128)?;
     with_word(line, write)
 }
 
@@ -87,5 +117,5 @@ fn fail(alloc: Global, call: Call, fault: Fault, counts: &[u128]) -> Result<Byte
 {
     let head = with_word(start(alloc, b"fail")?, call_name(call))?;
     let head = with_word(head, fault_name(fault))?;
-    numbers(alloc, head.as_slice(), counts)
+    with_numbers(alloc, head, counts)
 }
