@@ -4,19 +4,13 @@ use Rattle.std.specs.Char.{digit_value}
 use Rattle.std.specs.Fmt.{digit_glyph}
 use Rattle.std.specs.List.{AllByRecursion, flat_map}
 use Rattle.std.proofs.lemmas.Bool.{lt-ltb, le-ltb, cases_lt, ne_eqb}
-use Rattle.keel_script.specs.Parts.{Part, Spells, Spell, printed_part, printed_parts, printed_line}
+use Rattle.keel_script.specs.Parts.{Part, IsWritable, Spells, Spell, printed_part, printed_parts, printed_line}
 use Rattle.keel_script.specs.Parts.Part.{Word, Number, Text}
 use Rattle.keel_script.specs.Texts.{is_plain, IsByte, AreBytes, printed_byte}
 use Rattle.keel_script.specs.Words.{begins_word, onto_first, words_of}
 use Rattle.keel_script.proofs.Choices.{which, if_true, if_false}
 use Rattle.keel_script.proofs.Splitting.{word_goes_on, word_ends}
 use Rattle.keel_script.proofs.Visible.{IsVisibleWord, AreVisible, are_fixed, spelled_visible, plain_visible}
-
--- a part that has a spelling
-abbrev pub IsWritable : Part → Type 0
-IsWritable (Word bytes) = Unit {0}
-IsWritable (Number n) = n < 2 ^ 64
-IsWritable (Text bytes) = AllByRecursion (λ byte. byte < 256) bytes
 
 -- the digit of a value has that value
 glyph_value : (d : ℕ) → d < 16 → digit_value (digit_glyph true d) ≡ d

@@ -10,13 +10,13 @@ use Rattle.keel_script.specs.declared.command.Command.{Command}
 use Rattle.keel_script.specs.declared.command.Command.TheVariants.{SetOption, Open, Put, Del, QueuePut, QueueDel, Write, Flush, Compact, Delete, Resume, ResumeStep, Drain, Tick, Get, Scan, Error, Space, Files, Levels, Limit, Close, Fail, Capacity, Crash}
 use Rattle.keel_script.specs.declared.option_name.OptionName.{OptionName}
 use Rattle.keel_script.specs.declared.option_name.OptionName.TheVariants as o
-use Rattle.keel_script.specs.Grammar.{synced, parts_of, IsAllowed, Says, command_line}
+use Rattle.keel_script.specs.Grammar.{synced, parts_of, IsInGrammar, Says, command_line}
 use Rattle.keel_script.specs.Laws.{IsPrintable}
 use Rattle.keel_script.specs.Names.{call_name, fault_name}
 use Rattle.keel_script.specs.Options.{option_name}
 use Rattle.keel_script.specs.Reading.{command_from, first_by}
 use Rattle.keel_script.specs.Words.{begins_word, onto_first, words_of, IsBlank, IsComment}
-use Rattle.keel_script.proofs.Canonical.{IsWritable, line_spells, spelled_writable}
+use Rattle.keel_script.proofs.Canonical.{line_spells, spelled_writable}
 use Rattle.keel_script.proofs.Choices.{which}
 use Rattle.keel_script.proofs.Commands.{says_read}
 use Rattle.keel_script.proofs.Splitting.{behind_space, word_goes_on, word_ends}
@@ -94,11 +94,11 @@ parts_fixed (Fail call fault skip times keep) =
 parts_fixed (Capacity bytes) = refl
 parts_fixed (Crash dirops keep garbage seed) = refl
 
-pub printed_says : (c : Command) → IsAllowed c → AllByRecursion IsWritable (parts_of c) → Says (command_line c) c
-printed_says c allowed writable = record { allowed = allowed; spelled = line_spells (parts_of c) (parts_fixed c) writable }
+pub own_line : (c : Command) → IsInGrammar c → Says (command_line c) c
+own_line c is = record { allowed = is.allowed; spelled = line_spells (parts_of c) (parts_fixed c) is.writable }
 
-pub own_line : (line : List ℕ) (c : Command) → Says line c → Says (command_line c) c
-own_line line c says = printed_says c says.allowed (spelled_writable (words_of line) (parts_of c) says.spelled)
+pub said_in_grammar : (line : List ℕ) (c : Command) → Says line c → IsInGrammar c
+said_in_grammar line c says = record { allowed = says.allowed; writable = spelled_writable (words_of line) (parts_of c) says.spelled }
 
 pub says_printable : (line : List ℕ) (c : Command) → Says line c → All IsPrintable line
 says_printable line c says = words_printable line (spelled_visible (words_of line) (parts_of c) (parts_fixed c) says.spelled)

@@ -1,11 +1,12 @@
 -- Which line says which command.
 use Rattle.std.specs.Prelude.{◌≢◌, ℕ, ◌≤◌, Bool, true, false, List, [], ◌∷◌, codes}
+use Rattle.std.specs.List.{AllByRecursion}
 use Rattle.keel_base.specs.declared.failure.Fault.TheVariants.{SpaceLimit}
 use Rattle.keel_script.specs.declared.command.Command.{Command}
 use Rattle.keel_script.specs.declared.command.Command.TheVariants.{SetOption, Open, Put, Del, QueuePut, QueueDel, Write, Flush, Compact, Delete, Resume, ResumeStep, Drain, Tick, Get, Scan, Error, Space, Files, Levels, Limit, Close, Fail, Capacity, Crash}
 use Rattle.keel_script.specs.Names.{fault_name, call_name}
 use Rattle.keel_script.specs.Options.{option_name}
-use Rattle.keel_script.specs.Parts.{Part, Spell, printed_line}
+use Rattle.keel_script.specs.Parts.{Part, IsWritable, Spell, printed_line}
 use Rattle.keel_script.specs.Parts.Part.{Word, Number, Text}
 use Rattle.keel_script.specs.Words.{words_of}
 
@@ -53,6 +54,11 @@ IsAllowed (Compact slot) = slot ≤ 1
 IsAllowed (Drain moves) = moves ≤ 1000000
 IsAllowed (Fail call fault skip times keep) = fault ≢ SpaceLimit
 IsAllowed _ = Unit {0}
+
+-- a command of the language
+pub record IsInGrammar (command : Command) : Type 0 where
+  pub allowed : IsAllowed command
+  pub writable : AllByRecursion IsWritable (parts_of command)
 
 -- the line says the command
 pub record Says (line : List ℕ) (command : Command) : Type 0 where

@@ -1,13 +1,19 @@
 -- What lines are spelled with: words, numbers and texts.
 use Rattle.std.specs.Prelude.{◌≡◌, ℕ, ◌<◌, ◌^◌, List, [], ◌∷◌, ◌++◌}
 use Rattle.std.specs.Fmt.{decimal}
-use Rattle.std.specs.List.{flat_map}
+use Rattle.std.specs.List.{flat_map, AllByRecursion}
 use Rattle.keel_script.specs.Texts.{IsText, printed_text}
 
 pub data Part : Type 0 where
   Word : List ℕ → Part
   Number : ℕ → Part
   Text : List ℕ → Part
+
+-- what has a spelling: a number below 2^64, a text of bytes
+abbrev pub IsWritable : Part → Type 0
+IsWritable (Word bytes) = Unit {0}
+IsWritable (Number n) = n < 2 ^ 64
+IsWritable (Text bytes) = AllByRecursion (λ byte. byte < 256) bytes
 
 -- this word spells the part. A number has no sign and no zero in front
 abbrev pub Spells : List ℕ → Part → Type 0

@@ -29,3 +29,6 @@ pub use printing::print_command;
 pub use reading::read_command;
 pub use reply::{Grade, Reply, SlotName};
 pub use words::is_blank;
+
+#[cfg(test)]
+mod tests;
