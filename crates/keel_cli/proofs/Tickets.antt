@@ -1,0 +1,310 @@
+-- What becomes of a ticket in the turns of the machine.
+use Rattle.std.proofs.Common.{◌≡◌, ◌≢◌, ◌⊎◌, ℕ, ◌+◌, ◌==◌, ◌||◌, Bool, true, false, not, cond, List, [], ◌∷◌, ◌++◌, map, find, filter, length, Option, Some, None, IsSome, IfSome, option_map, option_to_list, unwrap_or, if◌then◌else◌, refl, sym, ap, ◌∙◌, subst, inl, inr, arith, append-nil, eq-eqb}
+use Rattle.std.proofs.lemmas.List.{map-append}
+use Rattle.std.specs.List.{list_any, AllByRecursion}
+use Rattle.std.proofs.lemmas.List.Folds.{list_any-append}
+use Rattle.keel_base.specs.Points.{origin}
+use Rattle.keel_base.specs.declared.failure.Failure.{Failure}
+use Rattle.keel_base.specs.declared.op.Batch.{Batch}
+use Rattle.keel_machine.specs.declared.answers.Admit.TheVariants.{Queued}
+use Rattle.keel_machine.specs.declared.answers.Outcome.{Outcome}
+use Rattle.keel_machine.specs.declared.answers.Outcome.TheVariants as outcome
+use Rattle.keel_machine.specs.declared.steps.WriteStep.{WriteStep}
+use Rattle.keel_machine.specs.declared.steps.WriteStep.TheVariants as step
+use Rattle.keel_machine.specs.Admission.{ops_of, standing_of, tickets_of_group, outcome_kept, is_on_its_way, outcome_of, without_outcome, queued}
+use Rattle.keel_machine.specs.States.{State, Story, Ticketed, Group, Act, MakeLog, SyncDirectory, AddRecords, SyncLog}
+use Rattle.keel_machine.specs.Turns.{Event, Answers, after, behind}
+use Rattle.keel_machine.specs.Writing.{ready, started_or, group_bytes}
+use Rattle.keel_machine.specs.WritingAfter.{file_drawn, own_log, log_longer, handed_over, goes_on, act_done, act_failed, first_done, first_failed, group_done, group_failed, call_done, call_failed, queue_turned, write_after}
+use Rattle.keel_core.specs.Trails.{TrailShown}
+use Rattle.keel_core.specs.Views.{CoreView, StandsFor, Turns, Fits, state_of}
+use Rattle.keel_cli.specs.Places.{IsTold, AreTold}
+
+-- ---- a state that the core stands for
+
+abbrev pub story_of : TrailShown → Story
+story_of trail = record { start = origin; log = ops_of trail.log; limbo = ops_of trail.limbo; floor = trail.floor }
+
+abbrev pub state_at : CoreView → State
+state_at view = state_of view (story_of view.trail) (option_to_list view.standing)
+
+standing_one : (standing : Option Failure) → standing ≡ standing_of (option_to_list standing)
+standing_one None = refl
+standing_one (Some failure) = refl
+
+pub stands_at : (view : CoreView) → StandsFor view (state_at view)
+stands_at view = record {
+  story = story_of view.trail;
+  failures = option_to_list view.standing;
+  state_is = refl;
+  fits = record { earlier = []; log_is = refl; limbo_is = refl; floor_is = omega arith; point_is = refl };
+  standing = standing_one view.standing;
+}
+
+-- ---- lists of tickets and of outcomes
+
+abbrev pub any : ℕ → List ℕ → Bool
+any ticket tickets = list_any (λ other. other == ticket) tickets
+
+abbrev pub given : Outcome → List ℕ → List (ℕ × Outcome)
+given out tickets = map (λ ticket. (ticket, out)) tickets
+
+abbrev pub waiting_tickets : State → List ℕ
+waiting_tickets s = map (λ member. member.ticket) s.writing.waiting
+
+or_cases : (a b : Bool) → (a || b) ≡ true → (a ≡ true) ⊎ (b ≡ true)
+or_cases true b holds = inl refl
+or_cases false b holds = inr holds
+
+or_right : (a b : Bool) → b ≡ true → (a || b) ≡ true
+or_right true b holds = refl
+or_right false b holds = holds
+
+or_left : (a b : Bool) → a ≡ true → (a || b) ≡ true
+or_left true b holds = refl
+or_left false b holds = absurd cc
+
+any_cases : (ticket : ℕ) (a b : List ℕ) → any ticket (a ++ b) ≡ true → (any ticket a ≡ true) ⊎ (any ticket b ≡ true)
+any_cases ticket a b holds = or_cases (any ticket a) (any ticket b) (sym (list_any-append (λ other. other == ticket) a b) ∙ holds)
+
+any_right : (ticket : ℕ) (a b : List ℕ) → any ticket b ≡ true → any ticket (a ++ b) ≡ true
+any_right ticket a b holds = list_any-append (λ other. other == ticket) a b ∙ or_right (any ticket a) (any ticket b) holds
+
+any_one : (ticket : ℕ) → any ticket (ticket ∷ []) ≡ true
+any_one ticket = rw (eq-eqb ticket ticket refl) refl
+
+told_append : (a b : List (ℕ × Outcome)) → AreTold a → AreTold b → AreTold (a ++ b)
+told_append [] b first second = second
+told_append (entry ∷ a) b first second = (first.0, told_append a b first.1 second)
+
+told_given : (out : Outcome) (tickets : List ℕ) → IsTold out → AreTold (given out tickets)
+told_given out [] is = tt
+told_given out (ticket ∷ tickets) is = (is, told_given out tickets is)
+
+pub told_filter : (test : ℕ × Outcome → Bool) (a : List (ℕ × Outcome)) → AreTold a → AreTold (filter test a)
+told_filter test [] told = tt
+told_filter test (entry ∷ a) told =
+    let rest = told_filter test a told.1 in
+    elim (test entry) as (λ v. AreTold (cond v (entry ∷ filter test a) (filter test a))) [ true ↦ (told.0, rest) | false ↦ rest ]
+
+kept_left : (ticket : ℕ) (a b : List (ℕ × Outcome)) → IsSome (outcome_kept ticket a) → IsSome (outcome_kept ticket (a ++ b))
+kept_left ticket [] b some = absurd cc
+kept_left ticket (entry ∷ a) b some =
+    let rest = kept_left ticket a b in
+    (elim (entry.0 == ticket) as (λ v. IsSome (option_map (λ (e : ℕ × Outcome). e.1) (cond v (Some entry) (find (λ (e : ℕ × Outcome). e.0 == ticket) a)))
+    → IsSome (option_map (λ (e : ℕ × Outcome). e.1) (cond v (Some entry) (find (λ (e : ℕ × Outcome). e.0 == ticket) (a ++ b)))))
+    [ true ↦ (λ is. is) | false ↦ rest ]) some
+
+kept_right : (ticket : ℕ) (a b : List (ℕ × Outcome)) → IsSome (outcome_kept ticket b) → IsSome (outcome_kept ticket (a ++ b))
+kept_right ticket [] b some = some
+kept_right ticket (entry ∷ a) b some =
+    let rest = kept_right ticket a b some in
+    elim (entry.0 == ticket) as (λ v. IsSome (option_map (λ (e : ℕ × Outcome). e.1) (cond v (Some entry) (find (λ (e : ℕ × Outcome). e.0 == ticket) (a ++ b)))))
+    [ true ↦ refl | false ↦ rest ]
+
+kept_given : (ticket : ℕ) (out : Outcome) (tickets : List ℕ) → any ticket tickets ≡ true → IsSome (outcome_kept ticket (given out tickets))
+kept_given ticket out [] holds = absurd cc
+kept_given ticket out (first ∷ tickets) holds =
+    let rest = kept_given ticket out tickets in
+    (elim (first == ticket) as (λ v. (v || any ticket tickets) ≡ true
+    → IsSome (option_map (λ (e : ℕ × Outcome). e.1) (cond v (Some (first, out)) (find (λ (e : ℕ × Outcome). e.0 == ticket) (given out tickets)))))
+    [ true ↦ (λ is. refl) | false ↦ rest ]) holds
+
+-- ---- a ticket in a state
+
+-- it is on its way, or its outcome is kept
+abbrev pub Known : ℕ → State → Type 0
+Known ticket s = (is_on_its_way ticket s ≡ true) ⊎ IsSome (outcome_kept ticket s.writing.outcomes)
+
+-- no outcome of the state is Waiting or Unknown, and the ticket is known
+pub record Fine (ticket : ℕ) (s : State) : Type 0 where
+  pub told : AreTold s.writing.outcomes
+  pub known : Known ticket s
+
+-- tickets of which one may be this one get an outcome, and the others wait
+settled_known : (ticket : ℕ) (out : Outcome) (tickets waiting : List ℕ) (outcomes : List (ℕ × Outcome))
+    → any ticket (tickets ++ waiting) ≡ true → (any ticket waiting ≡ true) ⊎ IsSome (outcome_kept ticket (outcomes ++ given out tickets))
+settled_known ticket out tickets waiting outcomes holds =
+    elim (any_cases ticket tickets waiting holds) [
+      | inl is ↦ inr (kept_right ticket outcomes (given out tickets) (kept_given ticket out tickets is))
+      | inr is ↦ inl is
+    ]
+
+goes_on_fine : (ticket : ℕ) (sync : Bool) (group : Group) (later : List Act) (s : State)
+    → AreTold s.writing.outcomes → any ticket (group.tickets ++ waiting_tickets s) ≡ true → Fine ticket (goes_on sync group later s)
+goes_on_fine ticket sync group [] s told holds = record {
+  told = told_append s.writing.outcomes _ told (told_given _ group.tickets tt);
+  known = settled_known ticket _ group.tickets (waiting_tickets s) s.writing.outcomes holds;
+}
+goes_on_fine ticket sync group (act ∷ later) s told holds = record { told = told; known = inl holds }
+
+act_done_fine : (ticket : ℕ) (act : Act) (group : Group) (later : List Act) (s : State)
+    → AreTold s.writing.outcomes → any ticket (group.tickets ++ waiting_tickets s) ≡ true → Fine ticket (act_done act group later s)
+act_done_fine ticket MakeLog group later s told holds = goes_on_fine ticket false (record group { log = Some s.numbers.next_file }) later (file_drawn s) told holds
+act_done_fine ticket SyncDirectory group later s told holds =
+    goes_on_fine ticket false (record group { log = None }) later (record s { log = own_log group.log }) told holds
+act_done_fine ticket AddRecords group later s told holds =
+    goes_on_fine ticket false (record group { batches = [] }) later (record s {
+      log = log_longer (length (group_bytes s group)) s.log;
+      story = handed_over (ops_of group.batches) s.story;
+    }) told holds
+act_done_fine ticket SyncLog group later s told holds = goes_on_fine ticket true group later s told holds
+
+act_failed_fine : (ticket : ℕ) (act : Act) (group : Group) (failure : Failure) (s : State)
+    → AreTold s.writing.outcomes → any ticket (group.tickets ++ waiting_tickets s) ≡ true → Fine ticket (act_failed act group failure s)
+act_failed_fine ticket MakeLog group failure s told holds = record {
+  told = told_append s.writing.outcomes _ told (told_given (outcome.Failed failure) group.tickets tt);
+  known = settled_known ticket (outcome.Failed failure) group.tickets (waiting_tickets s) s.writing.outcomes holds;
+}
+act_failed_fine ticket SyncDirectory group failure s told holds = record {
+  told = told_append s.writing.outcomes _ told (told_given (outcome.Failed failure) group.tickets tt);
+  known = settled_known ticket (outcome.Failed failure) group.tickets (waiting_tickets s) s.writing.outcomes holds;
+}
+act_failed_fine ticket AddRecords group failure s told holds = record {
+  told = told_append s.writing.outcomes _ told (told_given (outcome.Failed failure) group.tickets tt);
+  known = settled_known ticket (outcome.Failed failure) group.tickets (waiting_tickets s) s.writing.outcomes holds;
+}
+act_failed_fine ticket SyncLog group failure s told holds = record {
+  told = told_append s.writing.outcomes _ told (told_given (outcome.Failed failure) group.tickets tt);
+  known = settled_known ticket (outcome.Failed failure) group.tickets (waiting_tickets s) s.writing.outcomes holds;
+}
+
+-- it is on its way while this group runs
+abbrev pub on_way : ℕ → Option Group → State → Type 0
+on_way ticket running s = any ticket (tickets_of_group running ++ waiting_tickets s) ≡ true
+
+same_fine : (ticket : ℕ) (running : Option Group) (s : State) → s.jobs.write.running ≡ running → AreTold s.writing.outcomes → on_way ticket running s → Fine ticket s
+same_fine ticket running s is told holds = record { told = told; known = inl (subst (λ r. on_way ticket r s) (sym is) holds) }
+
+first_fine : (ticket : ℕ) (group : Group) (left : List Act) (s : State)
+    → Fine ticket s → AreTold s.writing.outcomes → any ticket (group.tickets ++ waiting_tickets s) ≡ true → Fine ticket (first_done group left s)
+first_fine ticket group [] s same told holds = same
+first_fine ticket group (act ∷ later) s same told holds = act_done_fine ticket act group later s told holds
+
+group_done_fine : (ticket : ℕ) (running : Option Group) (s : State) → s.jobs.write.running ≡ running
+    → AreTold s.writing.outcomes → on_way ticket running s → Fine ticket (group_done running s)
+group_done_fine ticket None s is told holds = same_fine ticket None s is told holds
+group_done_fine ticket (Some group) s is told holds =
+    let same = same_fine ticket (Some group) s is told holds in
+    first_fine ticket group group.left s same told holds
+
+first_failed_fine : (ticket : ℕ) (group : Group) (left : List Act) (failure : Failure) (s : State)
+    → Fine ticket s → AreTold s.writing.outcomes → any ticket (group.tickets ++ waiting_tickets s) ≡ true → Fine ticket (first_failed group left failure s)
+first_failed_fine ticket group [] failure s same told holds = same
+first_failed_fine ticket group (act ∷ later) failure s same told holds = act_failed_fine ticket act group failure s told holds
+
+group_failed_fine : (ticket : ℕ) (running : Option Group) (failure : Failure) (s : State) → s.jobs.write.running ≡ running
+    → AreTold s.writing.outcomes → on_way ticket running s → Fine ticket (group_failed running failure s)
+group_failed_fine ticket None failure s is told holds = same_fine ticket None s is told holds
+group_failed_fine ticket (Some group) failure s is told holds =
+    first_failed_fine ticket group group.left failure s (same_fine ticket (Some group) s is told holds) told holds
+
+-- forming a group keeps every ticket on its way
+ready_keeps : (ticket : ℕ) (running : Option Group) (waiting : List Ticketed) (s : State) → s.jobs.write.running ≡ running → s.writing.waiting ≡ waiting
+    → is_on_its_way ticket s ≡ true → is_on_its_way ticket (started_or running s) ≡ true
+ready_keeps ticket (Some group) waiting s is waits holds = holds
+ready_keeps ticket None [] s is waits holds = rw waits (rw waits at holds)
+ready_keeps ticket None (first ∷ rest) s is waits holds = rw waits (rw (is, waits) at holds)
+
+ready_told : (running : Option Group) (waiting : List Ticketed) (s : State) → s.writing.waiting ≡ waiting → AreTold s.writing.outcomes → AreTold (started_or running s).writing.outcomes
+ready_told (Some group) waiting s waits told = told
+ready_told None [] s waits told = rw waits told
+ready_told None (first ∷ rest) s waits told = rw waits told
+
+turned_fine : (ticket : ℕ) (failure : Failure) (s : State) → AreTold s.writing.outcomes → is_on_its_way ticket s ≡ true → Fine ticket (queue_turned failure s)
+turned_fine ticket failure s told holds = record {
+  told = told_append s.writing.outcomes _ told (told_given (outcome.Turned failure) (waiting_tickets s) tt);
+  known =
+      elim (any_cases ticket (tickets_of_group s.jobs.write.running) (waiting_tickets s) holds) [
+        | inl is ↦ inl (rw (append-nil (tickets_of_group s.jobs.write.running)) is)
+        | inr is ↦ inr (kept_right ticket s.writing.outcomes _ (kept_given ticket (outcome.Turned failure) (waiting_tickets s) is))
+      ];
+}
+
+done_fine : (ticket : ℕ) (s : State) → AreTold s.writing.outcomes → is_on_its_way ticket s ≡ true → Fine ticket (call_done s)
+done_fine ticket s told holds =
+    group_done_fine ticket (ready s).jobs.write.running (ready s) refl
+    (ready_told s.jobs.write.running s.writing.waiting s refl told)
+    (ready_keeps ticket s.jobs.write.running s.writing.waiting s refl refl holds)
+
+failed_fine : (ticket : ℕ) (failure : Failure) (s : State) → AreTold s.writing.outcomes → is_on_its_way ticket s ≡ true → Fine ticket (call_failed failure s)
+failed_fine ticket failure s told holds =
+    group_failed_fine ticket (ready s).jobs.write.running failure (ready s) refl
+    (ready_told s.jobs.write.running s.writing.waiting s refl told)
+    (ready_keeps ticket s.jobs.write.running s.writing.waiting s refl refl holds)
+
+-- a write step keeps a ticket that is on its way, or keeps its outcome
+pub write_fine : (ticket : ℕ) (made : WriteStep) (s : State) → AreTold s.writing.outcomes → is_on_its_way ticket s ≡ true → Fine ticket (write_after s made)
+write_fine ticket (step.Moved job call) s told holds = done_fine ticket s told holds
+write_fine ticket (step.Done job seq batches) s told holds = done_fine ticket s told holds
+write_fine ticket (step.Failed failure) s told holds = failed_fine ticket failure s told holds
+write_fine ticket (step.Turned batches failure) s told holds = turned_fine ticket failure s told holds
+write_fine ticket step.Idle s told holds = record { told = told; known = inl holds }
+write_fine ticket (step.Spent counter) s told holds = record { told = told; known = inl holds }
+write_fine ticket (step.Cancelled job current) s told holds = record { told = told; known = inl holds }
+write_fine ticket step.OutOfMemory s told holds = record { told = told; known = inl holds }
+
+-- a ticket that was just given is on its way
+pub queued_fine : (batch : Batch) (s : State) → AreTold s.writing.outcomes → Fine (s.writing.last_ticket + 1) (queued batch s)
+queued_fine batch s told = record {
+  told = told;
+  known =
+      let ticket = s.writing.last_ticket + 1 in
+      inl (
+      any_right ticket (tickets_of_group s.jobs.write.running) (map (λ member. member.ticket) (queued batch s).writing.waiting)
+      (rw (map-append (λ (member : Ticketed). member.ticket) s.writing.waiting (record { ticket = ticket; batch = batch } ∷ []))
+      (any_right ticket (waiting_tickets s) (ticket ∷ []) (any_one ticket)))
+      );
+}
+
+kept_told : (ticket : ℕ) (outcomes : List (ℕ × Outcome)) → AreTold outcomes → IfSome (outcome_kept ticket outcomes) IsTold
+kept_told ticket [] told = tt
+kept_told ticket (entry ∷ outcomes) told =
+    let rest = kept_told ticket outcomes told.1 in
+    elim (entry.0 == ticket) as (λ v. IfSome (option_map (λ (e : ℕ × Outcome). e.1) (cond v (Some entry) (find (λ (e : ℕ × Outcome). e.0 == ticket) outcomes))) IsTold)
+    [ true ↦ told.0 | false ↦ rest ]
+
+not_unknown : (kept : Option Outcome) (on_way : Bool) → IfSome kept IsTold → (on_way ≡ true) ⊎ IsSome kept
+    → unwrap_or kept (if on_way then outcome.Waiting else outcome.Unknown) ≢ outcome.Unknown
+not_unknown None true told known same = absurd cc
+not_unknown None false told (inl is) same = absurd cc
+not_unknown None false told (inr is) same = absurd cc
+not_unknown (Some outcome.Waiting) on_way told known same = absurd told
+not_unknown (Some outcome.Unknown) on_way told known same = absurd told
+not_unknown (Some (outcome.Done seq)) on_way told known same = absurd cc
+not_unknown (Some (outcome.Failed failure)) on_way told known same = absurd cc
+not_unknown (Some (outcome.Turned failure)) on_way told known same = absurd cc
+
+waits_on_way : (kept : Option Outcome) (on_way : Bool) → IfSome kept IsTold
+    → unwrap_or kept (if on_way then outcome.Waiting else outcome.Unknown) ≡ outcome.Waiting → on_way ≡ true
+waits_on_way None true told same = refl
+waits_on_way None false told same = absurd cc
+waits_on_way (Some outcome.Waiting) on_way told same = absurd told
+waits_on_way (Some outcome.Unknown) on_way told same = absurd told
+waits_on_way (Some (outcome.Done seq)) on_way told same = absurd cc
+waits_on_way (Some (outcome.Failed failure)) on_way told same = absurd cc
+waits_on_way (Some (outcome.Turned failure)) on_way told same = absurd cc
+
+-- a known ticket is never unknown
+pub told_known : (ticket : ℕ) (s : State) → Fine ticket s → outcome_of s ticket ≢ outcome.Unknown
+told_known ticket s fine =
+    not_unknown (outcome_kept ticket s.writing.outcomes) (is_on_its_way ticket s) (kept_told ticket s.writing.outcomes fine.told) fine.known
+
+-- what waits is on its way
+pub waits_known : (ticket : ℕ) (s : State) → AreTold s.writing.outcomes → outcome_of s ticket ≡ outcome.Waiting → is_on_its_way ticket s ≡ true
+waits_known ticket s told same =
+    waits_on_way (outcome_kept ticket s.writing.outcomes) (is_on_its_way ticket s) (kept_told ticket s.writing.outcomes told) same
+
+-- ---- from states to cores
+
+abbrev pub KnownIn : ℕ → CoreView → Type 0
+KnownIn ticket view = Known ticket (state_at view)
+
+-- a core that stands for a fine state is fine
+pub fine_in : (ticket : ℕ) (view : CoreView) (s : State) → StandsFor view s → Fine ticket s → AreTold view.outcomes × KnownIn ticket view
+fine_in ticket view s stands fine =
+    let at : Fine ticket (state_of view stands.story stands.failures) = subst (Fine ticket) stands.state_is fine in
+    (at.told, at.known)
+
+pub told_in : (view : CoreView) (s : State) → StandsFor view s → AreTold s.writing.outcomes → AreTold view.outcomes
+told_in view s stands told = subst (λ (t : State). AreTold t.writing.outcomes) stands.state_is told

@@ -1,0 +1,172 @@
+-- How a run over a workload may end, and what it then has done.
+use Rattle.std.specs.Prelude.{◌≡◌, ℕ, ◌+◌, ◌⊎◌, Option, None, Some, List, [], ◌∷◌, ◌++◌, length, codes}
+use Rattle.std.specs.Fmt.{decimal}
+use Rattle.std.specs.Io.KnownBytes.{Appends}
+use Rattle.keel_base.specs.Counts.{Rose}
+use Rattle.keel_base.specs.Streams.{TakesAll, TakesMore, AppendsPart}
+use Rattle.keel_machine.specs.States.{State, Seen}
+use Rattle.keel_cli.specs.declared.command.Command.{Command}
+use Rattle.keel_cli.specs.declared.reply.Reply.{Reply}
+use Rattle.keel_cli.specs.declared.top.End.{End}
+use Rattle.keel_cli.specs.declared.top.End.TheVariants.{Completed, Usage, NotACommand, LongInput, ReadFault, WriteFault, OutOfMemory}
+use Rattle.keel_cli.specs.declared.lines.StopPlace.{StopPlace}
+use Rattle.keel_cli.specs.declared.lines.LineStop.{LineStop}
+use Rattle.keel_cli.specs.declared.lines.LineStop.TheVariants.{Refused, Unwritten, NoMemory}
+use Rattle.keel_cli.specs.Grammar.{Says, IsNoCommand, lines_of}
+use Rattle.keel_cli.specs.Replies.{text}
+use Rattle.keel_cli.specs.Runs.{Carries, Partly, Progress, unopened}
+
+-- what is told of the outside, and how often each part of it has failed
+pub record Outside : Type 0 where
+  pub left : Option (List ℕ)
+  pub read_faults : ℕ
+  pub held : Option (List ℕ)
+  pub write_faults : ℕ
+  pub device : Seen
+
+abbrev pub longest_input : ℕ
+longest_input = 67108864
+
+-- no store was opened, and the device is as it was handed in
+abbrev pub start_of : Outside → State
+start_of before = unopened before.device
+
+-- Memory ended before the command, at a call of it, or behind it where its reply was to be printed.
+abbrev pub CutShort : State → Command → State → Type 0
+CutShort old command new = (new ≡ old) ⊎ (((replies : List Reply) × Carries old command replies new) ⊎ Partly old command new)
+
+-- the replies to this command were written in part
+pub record WritesPart (old : State) (held : Option (List ℕ)) (command : Command) (new : State) (holds : Option (List ℕ)) : Type 0 where
+  pub replies : List Reply
+  pub carries : Carries old command replies new
+  pub part : AppendsPart held holds (text replies)
+
+-- the replies to this command were written
+pub record Writes (old : State) (held : Option (List ℕ)) (command : Command) (new : State) (holds : Option (List ℕ)) : Type 0 where
+  pub replies : List Reply
+  pub carries : Carries old command replies new
+  pub written : Appends held holds (text replies)
+
+-- how carrying out a command ends
+abbrev pub CommandEnds : Option LineStop → State → Option (List ℕ) → Command → State → Option (List ℕ) → Type 0
+CommandEnds None old held command new holds = Writes old held command new holds
+CommandEnds (Some Unwritten) old held command new holds = WritesPart old held command new holds
+CommandEnds (Some NoMemory) old held command new holds = CutShort old command new × (holds ≡ held)
+CommandEnds (Some Refused) old held command new holds = ⊥
+
+-- the line is the first that says nothing
+pub record IsRefused (line : List ℕ) : Type 0 where
+  pub no_command : IsNoCommand line
+  pub not_blank : line ≡ [] → ⊥
+
+-- why a run stops at this line, from old and held to new and holds
+abbrev pub Stops : LineStop → State → Option (List ℕ) → List ℕ → State → Option (List ℕ) → Type 0
+Stops Refused old held line new holds = IsRefused line × (new ≡ old) × (holds ≡ held)
+Stops Unwritten old held line new holds = (command : Command) × Says line (command ∷ []) × WritesPart old held command new holds
+Stops NoMemory old held line new holds = ((new ≡ old) ⊎ ((command : Command) × Says line (command ∷ []) × CutShort old command new)) × (holds ≡ held)
+
+-- the line was carried out, or the run stops there
+abbrev pub LineEnds : Option LineStop → State → Option (List ℕ) → List ℕ → State → Option (List ℕ) → Type 0
+LineEnds None old held line new holds = Progress old held (line ∷ []) new holds
+LineEnds (Some stop) old held line new holds = Stops stop old held line new holds
+
+-- a sink's fault is why the run stops
+abbrev pub IsUnwritten : Option LineStop → Type 0
+IsUnwritten stop = stop ≡ Some Unwritten
+
+abbrev pub IsUnwrittenAt : Option StopPlace → Type 0
+IsUnwrittenAt stop = (line : ℕ) × (stop ≡ Some (record { stop = Unwritten; line = line }))
+
+-- the lines before this one were carried out, and then the run stops there
+pub record StopsAt (stop : LineStop) (old : State) (held : Option (List ℕ)) (lines : List (List ℕ)) (number : ℕ) (new : State) (holds : Option (List ℕ)) : Type 0 where
+  pub before : List (List ℕ)
+  pub line : List ℕ
+  pub behind : List (List ℕ)
+  pub lines_are : lines ≡ before ++ line ∷ behind
+  pub number_is : number ≡ length before + 1
+  pub mid : State
+  pub holds_mid : Option (List ℕ)
+  pub progress : Progress old held before mid holds_mid
+  pub stops : Stops stop mid holds_mid line new holds
+
+-- all lines were carried out, or the run stops at one of them
+abbrev pub LinesEnd : Option StopPlace → State → Option (List ℕ) → List (List ℕ) → State → Option (List ℕ) → Type 0
+LinesEnd None old held lines new holds = Progress old held lines new holds
+LinesEnd (Some at) old held lines new holds = StopsAt at.stop old held lines at.line new holds
+
+abbrev pub end_at : LineStop → ℕ → End
+end_at Refused line = NotACommand line
+end_at Unwritten line = WriteFault
+end_at NoMemory line = OutOfMemory
+
+-- the input was read to its end, and every line was carried out
+pub record Completes (before after : Outside) : Type 0 where
+  pub input : List ℕ
+  pub taken : TakesAll before.left after.left longest_input input
+  pub last : State
+  pub progress : Progress (start_of before) before.held (lines_of input) last after.held
+  pub handed_back : after.device ≡ last.device
+
+-- the input was read to its end, and the run stopped at this line
+pub record Breaks (stop : LineStop) (number : ℕ) (before after : Outside) : Type 0 where
+  pub input : List ℕ
+  pub taken : TakesAll before.left after.left longest_input input
+  pub last : State
+  pub stops : StopsAt stop (start_of before) before.held (lines_of input) number last after.held
+  pub handed_back : after.device ≡ last.device
+
+-- nothing was carried out or written
+pub record Untouched (before after : Outside) : Type 0 where
+  pub held : after.held ≡ before.held
+  pub device : after.device ≡ before.device
+
+-- what was done where the run ends so
+abbrev pub Ends : End → Outside → Outside → Type 0
+Ends Completed before after = Completes before after
+Ends Usage before after = after ≡ before
+Ends (NotACommand line) before after = Breaks Refused line before after
+Ends LongInput before after = TakesMore before.left after.left longest_input × Untouched before after
+Ends ReadFault before after = Rose before.read_faults after.read_faults × Untouched before after
+Ends WriteFault before after = Rose before.write_faults after.write_faults × ((line : ℕ) × Breaks Unwritten line before after)
+Ends OutOfMemory before after = Untouched before after ⊎ ((line : ℕ) × Breaks NoMemory line before after)
+
+abbrev pub status_of : End → ℕ
+status_of Completed = 0
+status_of Usage = 2
+status_of (NotACommand line) = 3
+status_of LongInput = 3
+status_of ReadFault = 4
+status_of WriteFault = 5
+status_of OutOfMemory = 6
+
+-- the text on err
+abbrev pub message_of : End → List ℕ
+message_of Completed = []
+message_of Usage = codes "usage: keel run, dir PATH, gen SEED COUNT, check, threads CLIENTS OPS SEED\n"
+message_of (NotACommand line) = codes "line " ++ decimal line ++ codes ": not a command\n"
+message_of LongInput = codes "input longer than 67108864 bytes\n"
+message_of ReadFault = codes "read fault\n"
+message_of WriteFault = codes "write fault\n"
+message_of OutOfMemory = codes "out of memory\n"
+
+abbrev pub outside : Option (List ℕ) → ℕ → Option (List ℕ) → ℕ → Seen → Outside
+outside left read_faults held write_faults device =
+    record { left = left; read_faults = read_faults; held = held; write_faults = write_faults; device = device }
+
+-- the text was written, or a part of it where the sink failed
+abbrev pub Tells : List ℕ → Option (List ℕ) → ℕ → Option (List ℕ) → ℕ → Type 0
+Tells message old before new now = Appends old new message ⊎ (AppendsPart old new message × Rose before now)
+
+abbrev pub NamesNoLine : End → Type 0
+NamesNoLine (NotACommand line) = ⊥
+NamesNoLine other = Unit {0}
+
+-- an end is told as it is, or for want of memory to name the line as that
+abbrev pub StaysOrRunsOut : End → End → Type 0
+StaysOrRunsOut (NotACommand line) told = (told ≡ NotACommand line) ⊎ (told ≡ OutOfMemory)
+StaysOrRunsOut end told = told ≡ end
+
+-- the end of a run that stops so
+abbrev pub end_of : Option StopPlace → End
+end_of None = Completed
+end_of (Some at) = end_at at.stop at.line

@@ -1,0 +1,7 @@
+pub mod Ends
+pub mod Grammar
+pub mod Places
+pub mod Puts
+pub mod Replies
+pub mod Runs
+pub mod Words

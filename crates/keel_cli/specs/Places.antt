@@ -1,0 +1,52 @@
+-- Which states of the machine the driver's store stands for.
+use Rattle.std.specs.Prelude.{◌≡◌, ℕ, Bool, true, false, Option, List}
+use Rattle.std.specs.List.{AllByRecursion}
+use Rattle.keel_base.specs.declared.failure.Fault.{Fault}
+use Rattle.keel_disk.specs.Told.{Told}
+use Rattle.keel_machine.specs.Outside.{seen}
+use Rattle.keel_machine.specs.States.{State, Seen, Mode, Unopened, Closed, Open}
+use Rattle.keel_machine.specs.declared.answers.Outcome.{Outcome}
+use Rattle.keel_machine.specs.declared.answers.Outcome.TheVariants as outcome
+use Rattle.keel_core.specs.Views.{CoreView, StandsFor}
+use Rattle.keel_cli.specs.declared.place.Place.{Place}
+use Rattle.keel_cli.specs.declared.place.Place.TheVariants as place
+
+-- what a device shows, by the ways to see each part of it
+abbrev pub shown_by : {V : Type 0} → (V → Option Told) → (V → ℕ) → (V → ℕ) → (V → Option Fault) → V → Seen
+shown_by told changes faults last_fault device = seen (told device) (changes device) (faults device) (last_fault device)
+
+abbrev pub is_open : Mode → Bool
+is_open Unopened = false
+is_open Closed = false
+is_open Open = true
+
+-- no store is open, and the device shows this
+pub record IsShut (shows : Seen) (s : State) : Type 0 where
+  pub shut : is_open s.mode ≡ false
+  pub device : s.device ≡ shows
+
+-- the driver's store stands for this state
+abbrev pub Stands : {V : Type 0} → (V → Seen) → Place V → State → Type 0
+Stands shown (place.Closed device) s = IsShut (shown device) s
+Stands shown (place.Open core) s = StandsFor core s
+
+-- no outcome that the store keeps is Waiting or Unknown
+abbrev pub IsTold : Outcome → Type 0
+IsTold outcome.Waiting = ⊥
+IsTold outcome.Unknown = ⊥
+IsTold _ = Unit {0}
+
+abbrev pub AreTold : List (ℕ × Outcome) → Type 0
+AreTold outcomes = AllByRecursion (λ (entry : ℕ × Outcome). IsTold entry.1) outcomes
+
+abbrev pub IsTidy : {V : Type 0} → Place V → Type 0
+IsTidy (place.Closed device) = Unit {0}
+IsTidy (place.Open core) = AreTold core.outcomes
+
+-- the core stands for a state of which this holds
+abbrev pub CoreLeads : CoreView → (State → Type 0) → Type 0
+CoreLeads core P = (s : State) × StandsFor core s × P s
+
+-- it stands for a state of which this holds
+abbrev pub Leads : {V : Type 0} → (V → Seen) → Place V → (State → Type 0) → Type 0
+Leads shown driver P = (s : State) × Stands shown driver s × P s

@@ -1,0 +1,81 @@
+-- How a put is carried out by calls of the machine.
+use Rattle.std.specs.Prelude.{◌≡◌, ◌⊎◌, ℕ, Bool, Option, None, Some, List, [], ◌∷◌}
+use Rattle.keel_base.specs.declared.op.Batch.{Batch}
+use Rattle.keel_base.specs.declared.op.Op.TheVariants as op
+use Rattle.keel_base.specs.declared.failure.Counter.{Counter}
+use Rattle.keel_machine.specs.declared.answers.Admit.{Admit}
+use Rattle.keel_machine.specs.declared.answers.Admit.TheVariants as admit
+use Rattle.keel_machine.specs.declared.answers.Outcome.{Outcome}
+use Rattle.keel_machine.specs.declared.answers.Outcome.TheVariants as outcome
+use Rattle.keel_machine.specs.declared.steps.WriteStep.{WriteStep}
+use Rattle.keel_machine.specs.declared.steps.WriteStep.TheVariants as step
+use Rattle.keel_machine.specs.States.{State}
+use Rattle.keel_machine.specs.Turns.{Turn, Admitting, Writing, TakingOutcome}
+use Rattle.keel_cli.specs.declared.reply.Reply.{Reply}
+use Rattle.keel_cli.specs.declared.reply.Reply.TheVariants as reply
+
+-- the batch of one put
+abbrev pub put_batch : List ℕ → List ℕ → Bool → Batch
+put_batch key value sync = record { ops = op.Put key value ∷ []; sync = sync }
+
+-- the reply that prints a refusal; a queued batch has none yet, and want of memory has none
+abbrev pub refusal_replies : Admit → Option (List Reply)
+refusal_replies (admit.Queued ticket) = None
+refusal_replies (admit.Stopped failure) = Some (reply.Stopped failure ∷ [])
+refusal_replies (admit.Spent counter) = Some (reply.Spent counter ∷ [])
+refusal_replies (admit.QueueFull waiting) = Some (reply.QueueFull waiting ∷ [])
+refusal_replies admit.OutOfMemory = None
+
+-- the reply that prints an outcome
+abbrev pub outcome_replies : Outcome → Option (List Reply)
+outcome_replies outcome.Waiting = None
+outcome_replies (outcome.Done seq) = Some (reply.Done seq ∷ [])
+outcome_replies (outcome.Failed failure) = Some (reply.Failed failure ∷ [])
+outcome_replies (outcome.Turned failure) = Some (reply.Stopped failure ∷ [])
+outcome_replies outcome.Unknown = None
+
+-- Write steps were made from one state to another, and before each the ticket waited. The last of them comes first.
+abbrev pub Waits : State → ℕ → List WriteStep → State → Type 0
+Waits old ticket [] new = new ≡ old
+Waits old ticket (made ∷ earlier) new =
+    (mid : State) × (same : State) × Waits old ticket earlier mid × Turn mid (TakingOutcome ticket outcome.Waiting) same × Turn same (Writing None made) new
+
+-- the batch is queued under this ticket, and these write steps are made while it waits
+pub record Queues (old : State) (batch : Batch) (ticket : ℕ) (steps : List WriteStep) (new : State) : Type 0 where
+  pub mid : State
+  pub queued : Turn old (Admitting batch (admit.Queued ticket)) mid
+  pub waits : Waits mid ticket steps new
+
+-- the batch isn't queued
+pub record PutRefused (old : State) (batch : Batch) (replies : List Reply) (new : State) : Type 0 where
+  pub answer : Admit
+  pub turn : Turn old (Admitting batch answer) new
+  pub prints : refusal_replies answer ≡ Some replies
+
+-- write steps are made until the batch has an outcome, which is taken
+pub record PutSettled (old : State) (batch : Batch) (replies : List Reply) (new : State) : Type 0 where
+  pub ticket : ℕ
+  pub steps : List WriteStep
+  pub last : State
+  pub queues : Queues old batch ticket steps last
+  pub outcome : Outcome
+  pub taken : Turn last (TakingOutcome ticket outcome) new
+  pub prints : outcome_replies outcome ≡ Some replies
+
+-- the last write step found a counter at its end, and the batch still waits
+pub record PutWaits (old : State) (batch : Batch) (replies : List Reply) (new : State) : Type 0 where
+  pub ticket : ℕ
+  pub steps : List WriteStep
+  pub counter : Counter
+  pub queues : Queues old batch ticket (step.Spent counter ∷ steps) new
+  pub prints : replies ≡ reply.Waiting ticket ∷ []
+
+-- a put of this batch is answered by these replies
+abbrev pub PutRun : State → Batch → List Reply → State → Type 0
+PutRun old batch replies new = PutRefused old batch replies new ⊎ (PutSettled old batch replies new ⊎ PutWaits old batch replies new)
+
+-- memory ended at the admission, or at the last one of the write steps
+abbrev pub PutCut : State → Batch → State → Type 0
+PutCut old batch new =
+    Turn old (Admitting batch admit.OutOfMemory) new
+    ⊎ ((ticket : ℕ) × (steps : List WriteStep) × Queues old batch ticket (step.OutOfMemory ∷ steps) new)

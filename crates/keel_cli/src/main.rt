@@ -1,0 +1,62 @@
+//! The program: a workload of commands is read, carried out on a store, and answered.
+//!
+//! `run_words` is the top call, generic over where the input comes from, where output and messages go, and the
+//! device. Its contract: the status says how the run ended. With 0 the input was read to its end, each line says
+//! its command, the commands are a run of the machine (`keel_machine`) from a store that was never opened, each
+//! reply prints the answer of its calls, and the output grew by just these lines. With 3, 5 and 6 that holds of
+//! the lines before the one at which the run stopped. The device is handed back as the machine then has it.
+//!
+//! A line is `open`, `put K V sync` or `get K`, with one space between words, and K and V of 1 to 64 letters and
+//! digits. An empty line says nothing.
+//!
+//! It stands on `keel_core`, the store, and runs it over `keel_simdisk`, a device in memory.
+#![tactic(auto)]
+
+mod command;
+mod lines;
+mod place;
+mod putting;
+mod reply;
+mod top;
+
+pub use command::{Command, LineError, read_command};
+use keel_base::{ReadSource, WriteSink};
+use keel_simdisk::SimDisk;
+pub use lines::{LineDone, LineStop, LinesDone, StopPlace, carry_lines};
+pub use place::{Carried, Place, carry_out, finish};
+pub use reply::{Reply, print_line};
+use std::process::ExitCode;
+use std::{env, io};
+pub use top::{End, Ended, Worked, run_words};
+
+// How many bytes the device holds.
+const CAPACITY: u64 = 1073741824;
+
+// The words after the program's name.
+fn words_of(rt: &HostRuntime) -> io::Result<Vec<String>> {
+    let mut words = Vec::new(rt.alloc());
+    for word in env::args(rt)?.skip(1) {
+        words.push(word)?;
+    }
+    Ok(words)
+}
+
+fn main(rt: HostRuntime) -> ExitCode {
+    let alloc = rt.alloc();
+    let words = match words_of(&rt) {
+        Ok(words) => words,
+        Err(_) => Vec::new(alloc),
+    };
+    let ended = run_words(
+        alloc,
+        &words,
+        ReadSource::new(rt.stdin()),
+        WriteSink::new(rt.stdout()),
+        WriteSink::new(rt.stderr()),
+        SimDisk::new(alloc, CAPACITY),
+    );
+    ExitCode::from(ended.status)
+}
+
+#[cfg(test)]
+mod tests;

@@ -1,0 +1,202 @@
+// The top call: a workload is read, carried out and answered.
+ghost use Rattle.std.specs.Prelude.{◌≡◌, ◌↔◌, IfOk, IsTrue, map};
+ghost use Rattle.std.specs.String.{string_bytes};
+ghost use Rattle.keel_cli.specs.declared.top.End.{End};
+ghost use Rattle.keel_cli.specs.Ends.{Ends, NamesNoLine, StaysOrRunsOut, end_of, outside, message_of, status_of, Tells};
+ghost use Rattle.keel_cli.specs.Places.{shown_by};
+ghost use Rattle.keel_cli.specs.Words.{AskForRun};
+
+use crate::{LineStop, StopPlace, carry_lines};
+use keel_base::{OutOfMemory, Sink, Source, TakeEnd, give_all, take_all};
+use keel_disk::Device;
+use std::alloc::Global;
+
+/// How a run ends.
+#[derive(Clone, Copy, Debug, PartialEq, Eq)]
+pub enum End {
+    Completed,
+    Usage,
+    NotACommand { line: u64 },
+    LongInput,
+    ReadFault,
+    WriteFault,
+    OutOfMemory,
+}
+
+/// What was handed in, as the run leaves it, and how it ended.
+#[derive(Drop)]
+pub struct Ended<S: Source, K: Sink, E: Sink, V: Device> {
+    pub status: u8,
+    pub source: S,
+    pub out: K,
+    pub err: E,
+    pub device: V,
+}
+
+/// A run ended so, and hands the device back.
+#[derive(Drop)]
+pub struct Worked<V: Device> {
+    pub end: End,
+    pub device: V,
+}
+
+const LONGEST_INPUT: usize = 67108864;
+
+fn ask_for_run(words: &Vec<String>) -> bool
+    ensures { IsTrue result ↔ AskForRun (map string_bytes words.now.items) }
+{
+    match words.as_slice() {
+        [word] => word.as_str() == "run",
+        _ => false,
+    }
+}
+
+fn end_of(stop: Option<StopPlace>) -> End
+    ensures { result ≡ end_of stop }
+{
+    match stop {
+        None => End::Completed,
+        Some(StopPlace { stop, line }) => match stop {
+            LineStop::Refused => End::NotACommand { line },
+            LineStop::Unwritten => End::WriteFault,
+            LineStop::NoMemory => End::OutOfMemory,
+        },
+    }
+}
+
+/// Reads the workload to its end, and carries it out, where the words ask for it.
+fn work<S: Source, K: Sink, V: Device>(
+    alloc: Global,
+    words: &Vec<String>,
+    source: &mut S,
+    out: &mut K,
+    device: V,
+) -> Worked<V>
+    ensures usage { (result.end ≡ End.Usage) ↔ ¬ AskForRun (map string_bytes words.now.items) }
+    ensures ends { Ends result.end
+        (outside (S.remaining source.old) (S.faults source.old) (K.held out.old) (K.faults out.old) (shown_by V.told V.changes V.faults V.last_fault device))
+        (outside (S.remaining source.new) (S.faults source.new) (K.held out.new) (K.faults out.new) (shown_by V.told V.changes V.faults V.last_fault result.device)) }
+{
+    if !ask_for_run(words) {
+        return Worked {
+            end: End::Usage,
+            device,
+        };
+    }
+    match take_all(alloc, source, LONGEST_INPUT) {
+        Ok(input) => {
+            let done = carry_lines(alloc, &input, out, device);
+            Worked {
+                end: end_of(done.stop),
+                device: done.device,
+            }
+        }
+        Err(TakeEnd::Fault) => Worked {
+            end: End::ReadFault,
+            device,
+        },
+        Err(TakeEnd::TooLong) => Worked {
+            end: End::LongInput,
+            device,
+        },
+        Err(TakeEnd::OutOfMemory) => Worked {
+            end: End::OutOfMemory,
+            device,
+        },
+    }
+}
+
+fn refusal_text(alloc: Global, line: u64) -> Result<Vec<u8>, OutOfMemory>
+    ensures { IfOk result (λ text. text.items ≡ message_of (End.NotACommand line)) }
+{
+    let digits = line.to_string(alloc)?;
+    let mut text = Vec::from_slice(alloc, b"line ")?;
+    text.extend_from_slice(digits.as_bytes())?;
+    text.extend_from_slice(b": not a command\n")?;
+    Ok(text)
+}
+
+// The text of an end that names no line.
+fn plain_text(end: End) -> &'static [u8]
+    requires { NamesNoLine end }
+    ensures { result.now ≡ message_of end }
+{
+    match end {
+        End::Completed => b"",
+        End::Usage => {
+            b"usage: keel run, dir PATH, gen SEED COUNT, check, threads CLIENTS OPS SEED\n"
+        }
+        End::NotACommand { .. } => unreachable!(),
+        End::LongInput => b"input longer than 67108864 bytes\n",
+        End::ReadFault => b"read fault\n",
+        End::WriteFault => b"write fault\n",
+        End::OutOfMemory => b"out of memory\n",
+    }
+}
+
+// Writes the text of an end. Where there is no memory for it, that is the end.
+fn tell<E: Sink>(alloc: Global, err: &mut E, end: End) -> End
+    ensures told { Tells (message_of result) (E.held err.old) (E.faults err.old) (E.held err.new) (E.faults err.new) }
+    ensures end { StaysOrRunsOut end result }
+{
+    match end {
+        End::NotACommand { line } => match refusal_text(alloc, line) {
+            Ok(text) => {
+                let _ = give_all(err, &text);
+                end
+            }
+            Err(_) => {
+                let _ = give_all(err, plain_text(End::OutOfMemory));
+                End::OutOfMemory
+            }
+        },
+        _ => {
+            let _ = give_all(err, plain_text(end));
+            end
+        }
+    }
+}
+
+fn status_of(end: End) -> u8
+    ensures { result ≡ status_of end }
+{
+    match end {
+        End::Completed => 0,
+        End::Usage => 2,
+        End::NotACommand { .. } | End::LongInput => 3,
+        End::ReadFault => 4,
+        End::WriteFault => 5,
+        End::OutOfMemory => 6,
+    }
+}
+
+/// Carries out the workload of the source and writes the replies.
+pub fn run_words<S: Source, K: Sink, E: Sink, V: Device>(
+    alloc: Global,
+    words: &Vec<String>,
+    source: S,
+    out: K,
+    err: E,
+    device: V,
+) -> Ended<S, K, E, V>
+    // The status says how the run ended, what was done is what that end says, and err has its text.
+    ensures ends { (end : End) × (result.status ≡ status_of end)
+        × Ends end
+        (outside (S.remaining source) (S.faults source) (K.held out) (K.faults out) (shown_by V.told V.changes V.faults V.last_fault device))
+        (outside (S.remaining result.source) (S.faults result.source) (K.held result.out) (K.faults result.out) (shown_by V.told V.changes V.faults V.last_fault result.device))
+        × Tells (message_of end) (E.held err) (E.faults err) (E.held result.err) (E.faults result.err) }
+    ensures usage { (result.status ≡ 2) ↔ ¬ AskForRun (map string_bytes words.now.items) }
+{
+    let mut source = source;
+    let mut out = out;
+    let mut err = err;
+    let worked = work(alloc, words, &mut source, &mut out, device);
+    let end = tell(alloc, &mut err, worked.end);
+    Ended {
+        status: status_of(end),
+        source,
+        out,
+        err,
+        device: worked.device,
+    }
+}
