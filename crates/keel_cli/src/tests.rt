@@ -1,5 +1,6 @@
 use crate::{Ended, run_words};
-use keel_base::{Bytes, Calls, MemSink, MemSource};
+use keel_base::{Bytes, Call, Calls, Fault, MemSink, MemSource};
+use keel_disk::{Device, Rule};
 use keel_simdisk::SimDisk;
 use std::alloc::Global;
 use std::test::Fail;
@@ -28,6 +29,8 @@ struct Row<'a> {
     input: &'a [u8],
     read_fails: bool,
     write_fails: bool,
+    // The kind of device calls that fail.
+    fails: Option<Call>,
     status: u8,
     out: &'a [u8],
     err: &'a [u8],
@@ -42,14 +45,18 @@ fn run_row(
     let out = MemSink::new(alloc, first_call(alloc, row.write_fails)?);
     let err = MemSink::new(alloc, first_call(alloc, false)?);
     let words = words_of(alloc, row.words)?;
-    Ok(run_words(
-        alloc,
-        &words,
-        source,
-        out,
-        err,
-        SimDisk::new(alloc, 1073741824),
-    ))
+    let mut device = SimDisk::new(alloc, 1073741824);
+    if let Some(call) = row.fails {
+        let rule = Rule::Fail {
+            call,
+            fault: Fault::Retryable,
+            skip: 0,
+            times: 1,
+            keep: 0,
+        };
+        device.arrange(alloc, rule).ok().ok_or("memory")?;
+    }
+    Ok(run_words(alloc, &words, source, out, err, device))
 }
 
 #[test]
@@ -60,6 +67,7 @@ fn runs_end_as_they_must(rt: HostRuntime) -> Result<(), Fail> {
             input: b"open\nput a 1 sync\nget a\nopen\n",
             read_fails: false,
             write_fails: false,
+            fails: None,
             status: 0,
             out: b"opened 0\nok 1\nvalue 1\nis-open\n",
             err: b"",
@@ -69,6 +77,7 @@ fn runs_end_as_they_must(rt: HostRuntime) -> Result<(), Fail> {
             input: b"get a",
             read_fails: false,
             write_fails: false,
+            fails: None,
             status: 0,
             out: b"not-open\n",
             err: b"",
@@ -78,8 +87,49 @@ fn runs_end_as_they_must(rt: HostRuntime) -> Result<(), Fail> {
             input: b"",
             read_fails: false,
             write_fails: false,
+            fails: None,
             status: 0,
             out: b"",
+            err: b"",
+        },
+        Row {
+            words: &["run"],
+            input: b"open\nput a 1 sync\nput b 2 sync\nget a\n",
+            read_fails: false,
+            write_fails: false,
+            fails: Some(Call::Create),
+            status: 0,
+            out: b"opened 0\nfailed wal retryable\nstopped wal retryable\nabsent\n",
+            err: b"",
+        },
+        Row {
+            words: &["run"],
+            input: b"open\nput a 1 sync\nput b 2 sync\nget a\n",
+            read_fails: false,
+            write_fails: false,
+            fails: Some(Call::SyncDir),
+            status: 0,
+            out: b"opened 0\nfailed wal retryable\nstopped wal retryable\nabsent\n",
+            err: b"",
+        },
+        Row {
+            words: &["run"],
+            input: b"open\nput a 1 sync\nput b 2 sync\nget a\n",
+            read_fails: false,
+            write_fails: false,
+            fails: Some(Call::Append),
+            status: 0,
+            out: b"opened 0\nfailed wal retryable\nstopped wal retryable\nabsent\n",
+            err: b"",
+        },
+        Row {
+            words: &["run"],
+            input: b"open\nput a 1 sync\nput b 2 sync\nget a\n",
+            read_fails: false,
+            write_fails: false,
+            fails: Some(Call::Sync),
+            status: 0,
+            out: b"opened 0\nfailed wal retryable\nstopped wal retryable\nabsent\n",
             err: b"",
         },
         Row {
@@ -87,6 +137,7 @@ fn runs_end_as_they_must(rt: HostRuntime) -> Result<(), Fail> {
             input: b"open",
             read_fails: false,
             write_fails: false,
+            fails: None,
             status: 2,
             out: b"",
             err: b"usage: keel run, dir PATH, gen SEED COUNT, check, threads CLIENTS OPS SEED\n",
@@ -96,6 +147,7 @@ fn runs_end_as_they_must(rt: HostRuntime) -> Result<(), Fail> {
             input: b"open\nput a\n",
             read_fails: false,
             write_fails: false,
+            fails: None,
             status: 3,
             out: b"opened 0\n",
             err: b"line 2: not a command\n",
@@ -105,6 +157,7 @@ fn runs_end_as_they_must(rt: HostRuntime) -> Result<(), Fail> {
             input: b"open",
             read_fails: true,
             write_fails: false,
+            fails: None,
             status: 4,
             out: b"",
             err: b"read fault\n",
@@ -114,6 +167,7 @@ fn runs_end_as_they_must(rt: HostRuntime) -> Result<(), Fail> {
             input: b"open",
             read_fails: false,
             write_fails: true,
+            fails: None,
             status: 5,
             out: b"",
             err: b"write fault\n",
