@@ -29,6 +29,16 @@ use Rattle.keel_simdisk.specs.Rules.{Meets}
 abbrev pub told_of : SimDisk → Told
 told_of disk = record { state = disk.state; room = disk.capacity - used disk.state; last = disk.last; forged = disk.forged }
 
+-- how many changing calls were handed in, how often it has failed, and how it failed last
+abbrev pub changes_of : SimDisk → ℕ
+changes_of disk = disk.changes
+
+abbrev pub faults_of : SimDisk → ℕ
+faults_of disk = disk.faults
+
+abbrev pub last_fault_of : SimDisk → Option Fault
+last_fault_of disk = disk.last_fault
+
 -- a device as it is made: an empty directory, and nothing armed
 abbrev pub empty_disk : ℕ → SimDisk
 empty_disk capacity = record {

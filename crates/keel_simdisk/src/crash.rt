@@ -102,7 +102,7 @@ pub fn copied(alloc: Global, files: &[File]) -> Result<Vec<File>, OutOfMemory>
 
 /// Files and a directory as a crash leaves them, and whether they aren't forged.
 #[derive(Drop)]
-pub struct Restarted {
+pub struct Remains {
     pub files: Vec<File>,
     pub names: Vec<(FileName, usize)>,
     pub plain: bool,
@@ -114,7 +114,7 @@ pub fn restart(
     files: &[File],
     directory: &[(FileName, usize)],
     pick: Pick,
-) -> Result<Restarted, OutOfMemory>
+) -> Result<Remains, OutOfMemory>
     requires { All IsFile files.now }
     ensures files { IfOk result (λ made. made.files.items ≡ image_files (image_of pick files.now directory.now)) }
     ensures names { IfOk result (λ made. made.names.items ≡ image_names 0 (image_of pick files.now directory.now)) }
@@ -131,7 +131,7 @@ pub fn restart(
         made.push(firm_file(alloc, bytes)?)?;
         names.push((entry.0, number))?;
     }
-    Ok(Restarted {
+    Ok(Remains {
         files: made,
         names,
         plain,

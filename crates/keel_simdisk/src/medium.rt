@@ -5,7 +5,7 @@ ghost use Rattle.keel_disk.specs.Step.{done, failed};
 ghost use Rattle.keel_disk.specs.Image.{restarted};
 ghost use Rattle.keel_disk.specs.Sound.{IsLawful};
 ghost use Rattle.keel_disk.specs.Listings.{IsListing};
-ghost use Rattle.keel_simdisk.specs.Contents.{bytes_of, used};
+ghost use Rattle.keel_simdisk.specs.Contents.{contents_of, used};
 ghost use Rattle.keel_simdisk.specs.Crash.{image_left, IsImageLeft, IsPlainLeft};
 ghost use Rattle.keel_simdisk.specs.Listings.{GivesSizes};
 
@@ -81,7 +81,7 @@ impl Medium {
         place: u64,
         length: u32,
     ) -> Result<Option<Bytes>, OutOfMemory>
-        ensures { IfOk result (λ part. part ≡ option_map (λ all. take length (drop place all)) (bytes_of name self.now)) }
+        ensures { IfOk result (λ part. part ≡ option_map (λ all. take length (drop place all)) (contents_of name self.now)) }
     {
         let Some(number) = self.tree.file_of(name) else {
             return Ok(None);
@@ -95,7 +95,7 @@ impl Medium {
 
     /// How many bytes a file has.
     pub fn size(&self, name: FileName) -> Option<u64>
-        ensures { result ≡ option_map length (bytes_of name self.now) }
+        ensures { result ≡ option_map length (contents_of name self.now) }
     {
         match self.tree.file_of(name) {
             None => None,

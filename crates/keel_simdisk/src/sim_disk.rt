@@ -6,10 +6,10 @@ ghost use Rattle.keel_base.specs.Name.{IsName};
 ghost use Rattle.keel_disk.specs.Counts.{FaultCounted, counted, disk_fault, read_fault};
 ghost use Rattle.keel_disk.specs.Listings.{IsListing};
 ghost use Rattle.keel_disk.specs.Rule.{IsAllowed};
-ghost use Rattle.keel_disk.specs.Sound.{IsLawful};
+ghost use Rattle.keel_disk.specs.Sound.{IsAtRest, IsLawful};
 ghost use Rattle.keel_disk.specs.Told.{Changes, TellsAbsent, TellsRead, TellsSize, TellsListing, TellsRoom, Arranges, Crashes};
 ghost use Rattle.keel_simdisk.specs.Rules.{planned_of};
-ghost use Rattle.keel_simdisk.specs.Calls.{empty_disk, told_of, kind_of as kind, is_overfull, failure_of, MakesCall, ReadsFile, ReadsDisk, ArmsRule, MakesCrash};
+ghost use Rattle.keel_simdisk.specs.Calls.{empty_disk, told_of, changes_of, faults_of, last_fault_of, kind_of as kind, is_overfull, failure_of, MakesCall, ReadsFile, ReadsDisk, ArmsRule, MakesCrash};
 
 use crate::medium::Medium;
 use crate::rules::{Armed, Met, Planned, Rules, plan_of};
@@ -47,7 +47,8 @@ fn kind_of(change: &Change) -> Call
 impl SimDisk {
     /// An empty directory for so many bytes, with nothing armed.
     pub fn new(alloc: Global, capacity: u64) -> SimDisk
-        ensures { result ≡ empty_disk capacity }
+        ensures empty { result ≡ empty_disk capacity }
+        ensures at_rest { IsAtRest (told_of result).state }
     {
         SimDisk {
             state: Medium::new(alloc),
@@ -116,7 +117,7 @@ impl SimDisk {
     fn note_fault(&mut self, fault: Fault)
         requires { fault ≢ SpaceLimit }
         ensures after { self.new ≡ record self.old { faults = raised self.old.faults; last_fault = Some fault } }
-        ensures cause { FaultCounted self.old.faults self.new.faults self.new.last_fault (Some fault) }
+        ensures cause { FaultCounted (faults_of self.old) (faults_of self.new) (last_fault_of self.new) (Some fault) }
     {
         let before = self.faults;
         self.faults = before.saturating_add(1);
@@ -128,8 +129,8 @@ impl SimDisk {
         requires { IsLawful change }
         ensures exact { MakesCall change self.old result self.new }
         ensures step { Changes change (Some (told_of self.old)) result (Some (told_of self.new)) }
-        ensures count { self.new.changes ≡ counted self.old.changes result }
-        ensures cause { FaultCounted self.old.faults self.new.faults self.new.last_fault (disk_fault result) }
+        ensures count { changes_of self.new ≡ counted (changes_of self.old) result }
+        ensures cause { FaultCounted (faults_of self.old) (faults_of self.new) (last_fault_of self.new) (disk_fault result) }
     {
         if !self.state.takes(&change) {
             self.note(change);
@@ -154,11 +155,11 @@ impl SimDisk {
 impl Disk for SimDisk {
     ghost told = { λ s. Some (told_of s) };
 
-    ghost changes = { λ s. s.changes };
+    ghost changes = { changes_of };
 
-    ghost faults = { λ s. s.faults };
+    ghost faults = { faults_of };
 
-    ghost last_fault = { λ s. s.last_fault };
+    ghost last_fault = { last_fault_of };
 
     ghost is_simulated = { λ _. true };
 
@@ -166,8 +167,8 @@ impl Disk for SimDisk {
         requires { IsName name }
         ensures exact { MakesCall (Change.Create name) self.old result self.new }
         ensures step { Changes (Change.Create name) (Some (told_of self.old)) result (Some (told_of self.new)) }
-        ensures count { self.new.changes ≡ counted self.old.changes result }
-        ensures cause { FaultCounted self.old.faults self.new.faults self.new.last_fault (disk_fault result) }
+        ensures count { changes_of self.new ≡ counted (changes_of self.old) result }
+        ensures cause { FaultCounted (faults_of self.old) (faults_of self.new) (last_fault_of self.new) (disk_fault result) }
     {
         self.make(alloc, Change::Create { name })
     }
@@ -175,8 +176,8 @@ impl Disk for SimDisk {
     fn append(&mut self, alloc: Global, name: FileName, bytes: &[u8]) -> Result<(), DiskError>
         ensures exact { MakesCall (Change.Append name bytes.now) self.old result self.new }
         ensures step { Changes (Change.Append name bytes.now) (Some (told_of self.old)) result (Some (told_of self.new)) }
-        ensures count { self.new.changes ≡ counted self.old.changes result }
-        ensures cause { FaultCounted self.old.faults self.new.faults self.new.last_fault (disk_fault result) }
+        ensures count { changes_of self.new ≡ counted (changes_of self.old) result }
+        ensures cause { FaultCounted (faults_of self.old) (faults_of self.new) (last_fault_of self.new) (disk_fault result) }
     {
         let copy = Bytes::from_slice(alloc, bytes)?;
         self.make(alloc, Change::Append { name, bytes: copy })
@@ -185,8 +186,8 @@ impl Disk for SimDisk {
     fn sync(&mut self, alloc: Global, name: FileName) -> Result<(), DiskError>
         ensures exact { MakesCall (Change.Sync name) self.old result self.new }
         ensures step { Changes (Change.Sync name) (Some (told_of self.old)) result (Some (told_of self.new)) }
-        ensures count { self.new.changes ≡ counted self.old.changes result }
-        ensures cause { FaultCounted self.old.faults self.new.faults self.new.last_fault (disk_fault result) }
+        ensures count { changes_of self.new ≡ counted (changes_of self.old) result }
+        ensures cause { FaultCounted (faults_of self.old) (faults_of self.new) (last_fault_of self.new) (disk_fault result) }
     {
         self.make(alloc, Change::Sync { name })
     }
@@ -195,8 +196,8 @@ impl Disk for SimDisk {
         requires { IsName to }
         ensures exact { MakesCall (Change.Rename from to) self.old result self.new }
         ensures step { Changes (Change.Rename from to) (Some (told_of self.old)) result (Some (told_of self.new)) }
-        ensures count { self.new.changes ≡ counted self.old.changes result }
-        ensures cause { FaultCounted self.old.faults self.new.faults self.new.last_fault (disk_fault result) }
+        ensures count { changes_of self.new ≡ counted (changes_of self.old) result }
+        ensures cause { FaultCounted (faults_of self.old) (faults_of self.new) (last_fault_of self.new) (disk_fault result) }
     {
         self.make(alloc, Change::Rename { from, to })
     }
@@ -204,8 +205,8 @@ impl Disk for SimDisk {
     fn remove(&mut self, alloc: Global, name: FileName) -> Result<(), DiskError>
         ensures exact { MakesCall (Change.Remove name) self.old result self.new }
         ensures step { Changes (Change.Remove name) (Some (told_of self.old)) result (Some (told_of self.new)) }
-        ensures count { self.new.changes ≡ counted self.old.changes result }
-        ensures cause { FaultCounted self.old.faults self.new.faults self.new.last_fault (disk_fault result) }
+        ensures count { changes_of self.new ≡ counted (changes_of self.old) result }
+        ensures cause { FaultCounted (faults_of self.old) (faults_of self.new) (last_fault_of self.new) (disk_fault result) }
     {
         self.make(alloc, Change::Remove { name })
     }
@@ -213,8 +214,8 @@ impl Disk for SimDisk {
     fn cut(&mut self, alloc: Global, name: FileName, length: u64) -> Result<(), DiskError>
         ensures exact { MakesCall (Change.Cut name length) self.old result self.new }
         ensures step { Changes (Change.Cut name length) (Some (told_of self.old)) result (Some (told_of self.new)) }
-        ensures count { self.new.changes ≡ counted self.old.changes result }
-        ensures cause { FaultCounted self.old.faults self.new.faults self.new.last_fault (disk_fault result) }
+        ensures count { changes_of self.new ≡ counted (changes_of self.old) result }
+        ensures cause { FaultCounted (faults_of self.old) (faults_of self.new) (last_fault_of self.new) (disk_fault result) }
     {
         self.make(alloc, Change::Cut { name, length })
     }
@@ -222,8 +223,8 @@ impl Disk for SimDisk {
     fn sync_dir(&mut self, alloc: Global) -> Result<(), DiskError>
         ensures exact { MakesCall Change.SyncDir self.old result self.new }
         ensures step { Changes Change.SyncDir (Some (told_of self.old)) result (Some (told_of self.new)) }
-        ensures count { self.new.changes ≡ counted self.old.changes result }
-        ensures cause { FaultCounted self.old.faults self.new.faults self.new.last_fault (disk_fault result) }
+        ensures count { changes_of self.new ≡ counted (changes_of self.old) result }
+        ensures cause { FaultCounted (faults_of self.old) (faults_of self.new) (last_fault_of self.new) (disk_fault result) }
     {
         self.make(alloc, Change::SyncDir)
     }
@@ -239,8 +240,8 @@ impl Disk for SimDisk {
         ensures bytes { TellsRead name place length (Some (told_of self.old)) result }
         ensures absent { TellsAbsent name (Some (told_of self.old)) result }
         ensures same { told_of self.new ≡ told_of self.old }
-        ensures count { self.new.changes ≡ self.old.changes }
-        ensures cause { FaultCounted self.old.faults self.new.faults self.new.last_fault (read_fault result) }
+        ensures count { changes_of self.new ≡ changes_of self.old }
+        ensures cause { FaultCounted (faults_of self.old) (faults_of self.new) (last_fault_of self.new) (read_fault result) }
     {
         let met = self.rules.first(Call::Read);
         if let Some(planned) = plan_of(met) {
@@ -261,8 +262,8 @@ impl Disk for SimDisk {
         ensures size { TellsSize name (Some (told_of self.old)) result }
         ensures absent { TellsAbsent name (Some (told_of self.old)) result }
         ensures same { told_of self.new ≡ told_of self.old }
-        ensures count { self.new.changes ≡ self.old.changes }
-        ensures cause { FaultCounted self.old.faults self.new.faults self.new.last_fault (read_fault result) }
+        ensures count { changes_of self.new ≡ changes_of self.old }
+        ensures cause { FaultCounted (faults_of self.old) (faults_of self.new) (last_fault_of self.new) (read_fault result) }
     {
         let met = self.rules.first(Call::Read);
         self.rules.count(met);
@@ -281,8 +282,8 @@ impl Disk for SimDisk {
         ensures listing { IfOk result (TellsListing (Some (told_of self.old))) }
         ensures order { IfOk result IsListing }
         ensures same { told_of self.new ≡ told_of self.old }
-        ensures count { self.new.changes ≡ self.old.changes }
-        ensures cause { FaultCounted self.old.faults self.new.faults self.new.last_fault (disk_fault result) }
+        ensures count { changes_of self.new ≡ changes_of self.old }
+        ensures cause { FaultCounted (faults_of self.old) (faults_of self.new) (last_fault_of self.new) (disk_fault result) }
     {
         let met = self.rules.first(Call::Read);
         if let Some(planned) = plan_of(met) {
@@ -299,8 +300,8 @@ impl Disk for SimDisk {
         ensures exact { ReadsDisk self.old result self.new }
         ensures room { IfOk result (TellsRoom (Some (told_of self.old))) }
         ensures same { told_of self.new ≡ told_of self.old }
-        ensures count { self.new.changes ≡ self.old.changes }
-        ensures cause { FaultCounted self.old.faults self.new.faults self.new.last_fault (disk_fault result) }
+        ensures count { changes_of self.new ≡ changes_of self.old }
+        ensures cause { FaultCounted (faults_of self.old) (faults_of self.new) (last_fault_of self.new) (disk_fault result) }
     {
         let met = self.rules.first(Call::Read);
         self.rules.count(met);
@@ -325,9 +326,9 @@ impl Device for SimDisk {
         ensures exact { ArmsRule rule self.old result self.new }
         ensures answer { IfOk result (λ done. done ≡ true) }
         ensures told { Arranges (Some (told_of self.old)) result (Some (told_of self.new)) }
-        ensures count { self.new.changes ≡ self.old.changes }
-        ensures faults { self.new.faults ≡ self.old.faults }
-        ensures last_fault { self.new.last_fault ≡ self.old.last_fault }
+        ensures count { changes_of self.new ≡ changes_of self.old }
+        ensures faults { faults_of self.new ≡ faults_of self.old }
+        ensures last_fault { last_fault_of self.new ≡ last_fault_of self.old }
     {
         match rule {
             Rule::Capacity(bytes) => {
@@ -357,9 +358,9 @@ impl Device for SimDisk {
         ensures exact { MakesCrash pick self.old result self.new }
         ensures answer { IfOk result (λ done. done ≡ true) }
         ensures told { Crashes (Some (told_of self.old)) result (Some (told_of self.new)) }
-        ensures count { self.new.changes ≡ self.old.changes }
-        ensures faults { self.new.faults ≡ self.old.faults }
-        ensures last_fault { self.new.last_fault ≡ self.old.last_fault }
+        ensures count { changes_of self.new ≡ changes_of self.old }
+        ensures faults { faults_of self.new ≡ faults_of self.old }
+        ensures last_fault { last_fault_of self.new ≡ last_fault_of self.old }
     {
         let left = self.state.restarted(alloc, pick)?;
         self.state = left.medium;

@@ -21,11 +21,11 @@ use std::marker::Model;
 /// The state of a device.
 #[derive(Drop)]
 pub struct Tree {
-    pub files: Vec<File>,
-    pub firm: Vec<(FileName, usize)>,
-    pub waiting: Vec<Operation>,
-    /// The directory that reads see.
-    pub names: Vec<(FileName, usize)>,
+    files: Vec<File>,
+    firm: Vec<(FileName, usize)>,
+    waiting: Vec<Operation>,
+    // The directory that reads see.
+    names: Vec<(FileName, usize)>,
 }
 
 impl Model for Tree {
