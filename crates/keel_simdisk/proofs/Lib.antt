@@ -1,4 +1,5 @@
 pub mod Answering
+pub mod Deciding
 pub mod Keeping
 pub mod Leaving
 pub mod Meeting

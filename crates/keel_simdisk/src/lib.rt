@@ -9,6 +9,8 @@
 //! - Then an append for which the capacity leaves no room fails with `NoSpace`.
 //! - A crash leaves exactly the image that was picked, and counts it where it is forged.
 //!
+//! `laws` has that this leaves no choice.
+//!
 //! A `SimDisk` keeps the model's own soundness in its type: names and files go one to one, whatever waits.
 //!
 //! It stands on the model of `keel_disk`, on `keel_frag` for what is forged, and on `keel_name` for the order of
@@ -18,6 +20,7 @@
 mod changes;
 mod crash;
 mod files;
+pub mod laws;
 mod listing;
 mod medium;
 mod names;

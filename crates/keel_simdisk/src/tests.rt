@@ -1,7 +1,7 @@
 ghost use Rattle.std.specs.Prelude.{IsTrue};
 ghost use Rattle.keel_base.specs.Name.{IsName};
 
-use crate::SimDisk;
+use crate::{SimDisk, laws};
 use keel_base::{Bytes, Call, Fault, FileName};
 use keel_disk::{Device, Disk, DiskError, Pick, ReadError, Rule};
 use keel_name::print;
@@ -265,6 +265,7 @@ fn calls_fail_and_crashes_leave_as_they_are_told(rt: HostRuntime) -> Result<(), 
     }
     assert_eq!(rt; disk.forged(), 1);
     assert!(rt; disk.simulated());
+    laws::one_answer();
     // A rule for reads skips one of them and fails the next.
     made(alloc, &mut disk, fail(Call::Read, 1, 0))?;
     assert!(rt; matches!(disk.size(alloc, TABLE), Ok(10)));
