@@ -25,7 +25,12 @@ infixl 10 ◌>>=◌
 abbrev pub ◌>>=◌ : {A B : Type 0} → Option A → (A → Option B) → Option B
 o >>= f = option_and_then f o
 
--- what a reader gave, seen by view, is what is there, unless memory ran out
+-- what a reader gave, seen by view, is what is there
+abbrev pub Shows : {X Y : Type 0} → (X → Y) → Option X → Option Y → Type 0
+Shows view (Some x) there = there ≡ Some (view x)
+Shows view None there = there ≡ None
+
+-- the same, unless memory ran out
 abbrev pub Fails : {Y : Type 0} → LineError → Option Y → Type 0
 Fails error.NotACommand there = there ≡ None
 Fails error.OutOfMemory there = Unit {0}
