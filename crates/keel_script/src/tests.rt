@@ -1,5 +1,5 @@
 use crate::{
-    Grade, OptionName, Reply, SlotName, is_blank, print_command, print_reply, read_command,
+    Grade, OptionName, Range, Reply, SlotName, is_blank, print_command, print_reply, read_command,
 };
 use keel_base::{Bytes, Call, Counter, Failure, Fault, FileName, Reason};
 use std::alloc::Global;
@@ -94,6 +94,39 @@ fn lines_are_read_or_refused(rt: HostRuntime) {
     }
     assert!(rt; is_blank(b"") && is_blank(b"   ") && is_blank(b"#open"));
     assert!(rt; !is_blank(b" #") && !is_blank(b"open"));
+}
+
+#[test]
+fn options_have_names_ranges_and_defaults(rt: HostRuntime) {
+    let options: [(OptionName, &[u8], u64, u64, u64); 14] = [
+        (OptionName::Paranoid, b"paranoid", 1, 0, 1),
+        (OptionName::Auto, b"auto", 1, 0, 1),
+        (OptionName::Attempts, b"attempts", 16, 0, 1000000),
+        (OptionName::Interval, b"interval", 1000, 0, 1000000000),
+        (OptionName::WriteBuffer, b"write_buffer", 65536, 1, 67108864),
+        (OptionName::MaxImmutables, b"max_immutables", 2, 1, 16),
+        (OptionName::Level0Trigger, b"level0_trigger", 4, 1, 64),
+        (
+            OptionName::LevelBase,
+            b"level_base",
+            262144,
+            1,
+            1099511627776,
+        ),
+        (OptionName::TableSize, b"table_size", 65536, 1, 67108864),
+        (OptionName::Limit, b"limit", 0, 0, 1152921504606846976),
+        (OptionName::Buffer, b"buffer", 0, 0, 1152921504606846976),
+        (OptionName::Rate, b"rate", 0, 0, 1099511627776),
+        (OptionName::Ratio, b"ratio", 250, 0, 1000000),
+        (OptionName::Chunk, b"chunk", 65536, 0, 1099511627776),
+    ];
+    for (option, name, default, least, greatest) in options {
+        assert_eq!(rt; option.name(), name);
+        assert_eq!(rt; option.default(), default);
+        assert_eq!(rt; option.range(), Range { least, greatest });
+        assert!(rt; option.range().contains(default));
+    }
+    assert!(rt; !OptionName::Ratio.range().contains(1000001));
 }
 
 #[test]
