@@ -1,0 +1,9 @@
+pub mod Parts
+pub mod Batching
+pub mod OneReading
+pub mod Running
+pub mod Adding
+pub mod Listed
+pub mod Filing
+pub mod Faults
+pub mod Standing

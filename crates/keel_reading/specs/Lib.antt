@@ -1,2 +1,5 @@
 pub mod Logs
 pub mod Reading
+pub mod Replays
+pub mod Answers
+pub mod Laws

@@ -4,6 +4,7 @@ use Rattle.keel_base.specs.declared.file_name.FileName.{FileName}
 use Rattle.keel_base.specs.declared.file_name.FileName.TheVariants.{Log}
 use Rattle.keel_base.specs.declared.op.Op.{Op}
 use Rattle.keel_batch.specs.Reading.{batch_of}
+use Rattle.keel_batch.specs.Spelling.{IsBatch}
 use Rattle.keel_disk.specs.Directory.{Named, find}
 use Rattle.keel_frag.specs.declared.record.LogRecord.{LogRecord}
 use Rattle.keel_frag.specs.Reading.{AreRecords}
@@ -49,3 +50,8 @@ RunOn last (batch ∷ rest) = (batch.0 ≡ last + 1) × RunOn (last + length bat
 abbrev pub count_ops : List Numbered → ℕ
 count_ops [] = 0
 count_ops (batch ∷ rest) = length batch.1 + count_ops rest
+
+-- each is a batch that a log may hold
+abbrev pub AreBatches : List Numbered → Type 0
+AreBatches [] = Unit {0}
+AreBatches (batch ∷ rest) = IsBatch batch.0 batch.1 × AreBatches rest

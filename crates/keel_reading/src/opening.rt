@@ -1,0 +1,82 @@
+// Reading the logs of a directory.
+ghost use Rattle.std.specs.Prelude.{◌≡◌, IfOk};
+ghost use Rattle.keel_disk.specs.Counts.{FaultCounted};
+ghost use Rattle.keel_disk.specs.Listings.{IsListing};
+ghost use Rattle.keel_disk.specs.Told.{TellsListing};
+ghost use Rattle.keel_reading.specs.Answers.{fault_in, AreLogs, NamesOther, ReadAnswers, RunsOn};
+
+use crate::directory::{first_other, next_log};
+use crate::file::read_file;
+use crate::numbering::Gap;
+use crate::refusal::OpenRefusal;
+use crate::replay::{Found, Replay};
+use keel_base::{FileName, Listing};
+use keel_disk::{Disk, DiskError};
+use std::alloc::Global;
+
+/// Reads the logs of a listing in order of their numbers.
+fn read_listed<D: Disk>(alloc: Global, disk: &mut D, listing: &Listing) -> Result<Found, OpenRefusal>
+    requires tells { TellsListing (D.told disk.old) listing.now }
+    requires order { IsListing listing.now }
+    requires logs { AreLogs listing.now }
+    ensures answers { ReadAnswers (D.told disk.old) result }
+    ensures other { NamesOther (D.told disk.old) result }
+    ensures runs_on { IfOk result RunsOn }
+    ensures same { D.told disk.new ≡ D.told disk.old }
+    ensures count { D.changes disk.new ≡ D.changes disk.old }
+    ensures cause { FaultCounted (D.faults disk.old) (D.faults disk.new) (D.last_fault disk.new) (fault_in result) }
+    ensures simulated { D.is_simulated disk.new ≡ D.is_simulated disk.old }
+{
+    let mut replay = Replay::new(alloc);
+    let mut least = 1;
+    'logs: while let Some(log) = next_log(listing.as_slice(), least) {
+        let bytes = read_file(alloc, disk, FileName::Log(log.number), log.size)?;
+        replay.add_log(alloc, log.number, bytes.as_slice())?;
+        least = log.number + 1;
+    }
+    let Replay { batches, numbering } = replay;
+    match numbering.gap {
+        None => Ok(Found {
+            batches,
+            last_seq: numbering.last,
+            next_file: least,
+        }),
+        Some(Gap {
+            log,
+            expected,
+            found,
+        }) => Err(OpenRefusal::LogGap {
+            log,
+            expected,
+            found,
+        }),
+    }
+}
+
+/// Reads all logs of the directory in order of their numbers, each up to its first bad fragment. It makes no
+/// changing call.
+///
+/// A log that vanishes between the listing and its read counts as empty.
+pub fn read_logs<D: Disk>(alloc: Global, disk: &mut D) -> Result<Found, OpenRefusal>
+    // The cause of each answer, where the device tells its directory.
+    ensures answers { ReadAnswers (D.told disk.old) result }
+    // NoCurrent names the first file of the listing that isn't a log.
+    ensures other { NamesOther (D.told disk.old) result }
+    // What is found is numbered on from 1, whatever the device tells.
+    ensures runs_on { IfOk result RunsOn }
+    ensures same { D.told disk.new ≡ D.told disk.old }
+    ensures count { D.changes disk.new ≡ D.changes disk.old }
+    // Device comes only where the device counted that fault, as the last one.
+    ensures cause { FaultCounted (D.faults disk.old) (D.faults disk.new) (D.last_fault disk.new) (fault_in result) }
+    ensures simulated { D.is_simulated disk.new ≡ D.is_simulated disk.old }
+{
+    let listing = match disk.list(alloc) {
+        Ok(listing) => listing,
+        Err(DiskError::Fault(fault)) => return Err(OpenRefusal::Device(fault)),
+        Err(DiskError::OutOfMemory) => return Err(OpenRefusal::OutOfMemory),
+    };
+    match first_other(listing.as_slice()) {
+        Some(file) => Err(OpenRefusal::NoCurrent { file }),
+        None => read_listed(alloc, disk, &listing),
+    }
+}
