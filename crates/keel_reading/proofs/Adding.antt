@@ -35,7 +35,7 @@ pub one_added : (log : ℕ) (old now : List Numbered) (before between after : Nu
     → AddedSoFar log old before (now ++ batch ∷ []) after all (index + 1)
 one_added log old now before between after all index found batch h lt is is_batch reads runs = record {
   added = h.added ++ batch ∷ [];
-  read = ap batches_in (one_more all index found lt is) ∙ map-append (λ (r : LogRecord). batch_of r.payload) (take index all) (found ∷ [])
+  read = ap batches_in (one_more all index found found lt is) ∙ map-append (λ (r : LogRecord). batch_of r.payload) (take index all) (found ∷ [])
       ∙ (λ i. h.read i ++ reads i ∷ []) ∙ sym (map-append as_read h.added (batch ∷ []));
   each = AreBatches-append h.added (batch ∷ []) h.each (is_batch, tt);
   batches_are = ap (λ (l : List Numbered). l ++ batch ∷ []) h.batches_are ∙ append_assoc old h.added (batch ∷ []);
@@ -69,7 +69,7 @@ breaks log bytes old now before after all end index found left h lt is records b
   bad = found;
   behind = drop (index + 1) all;
   end = end;
-  records = subst (λ (l : List LogRecord). AreRecords bytes l end) (parted all index found lt is) records;
+  records = subst (λ (l : List LogRecord). AreRecords bytes l end) (parted all index found found lt is) records;
   batches = h.added;
   good = h.read;
   left = left;

@@ -1,5 +1,5 @@
 -- Logs in a listing.
-use Rattle.std.proofs.Common.{◌≡◌, ℕ, ◌+◌, ◌<◌, ◌≤◌, Bool, true, false, ◌⊎◌, inl, inr, List, [], ◌∷◌, ◌++◌, Option, Some, None, refl, sym, ap, subst, ◌∙◌, arith, if◌then◌else◌}
+use Rattle.std.proofs.Common.{◌≡◌, ℕ, ◌+◌, ◌<◌, ◌≤◌, Bool, true, false, ◌⊎◌, inl, inr, List, [], ◌∷◌, ◌++◌, length, take, drop, get_or, Option, Some, None, refl, sym, ap, subst, ◌∙◌, arith, if◌then◌else◌}
 use Rattle.std.specs.Prelude.{All}
 use Rattle.std.proofs.lemmas.List.Elements.{All-head, All-tail}
 use Rattle.keel_base.specs.declared.file_name.FileName.{FileName}
@@ -9,7 +9,8 @@ use Rattle.keel_base.specs.Name.{name_eq, IsName}
 use Rattle.keel_base.proofs.Names.{name_eq-true, name_eq-same}
 use Rattle.keel_disk.specs.Listings.{size_listed}
 use Rattle.keel_reading.specs.declared.directory.ListedLog.{ListedLog}
-use Rattle.keel_reading.specs.Answers.{IsLog, AreLogs, NoLogFrom, IsNextLog, IsNextIn}
+use Rattle.keel_reading.specs.Answers.{IsLog, AreLogs, IsFirstOther, NoLogFrom, IsNextLog, IsNextIn}
+use Rattle.keel_reading.proofs.Parts.{one_more, parted}
 
 -- ---- logs alone
 
@@ -67,7 +68,7 @@ size_still name (first ∷ front) entry e other =
       | false ↦ λ e. size_still name front entry e other
     ] e
 
-same_number : (m n : ℕ) → Log m ≡ Log n → m ≡ n
+pub same_number : (m n : ℕ) → Log m ≡ Log n → m ≡ n
 same_number m n e = cc
 
 -- an entry that is no log from the least on, or none below the one that was chosen, changes nothing
@@ -111,3 +112,28 @@ first_log front least log entry name size low h = nearer_log front least None lo
 pub nearer_still : (front : List Entry) (least : ℕ) (before log : ListedLog) (entry : Entry) → entry.name ≡ Log log.number → entry.size ≡ log.size → least ≤ log.number → log.number < before.number
     → IsNextIn front least (Some before) → IsNextIn (front ++ entry ∷ []) least (Some log)
 nearer_still front least before log entry name size low near h = nearer_log front least (Some before) log entry name size low near h
+
+-- ---- the first other file
+
+pub first_other_at : (listing : List Entry) (i : ℕ) (entry default : Entry) → i < length listing → entry ≡ get_or listing i default → AreLogs (take i listing) → ((number : ℕ) → entry.name ≡ Log number → ⊥) → IsFirstOther listing entry.name
+first_other_at listing i entry default lt is logs other = record {
+  front = take i listing;
+  size = entry.size;
+  behind = drop (i + 1) listing;
+  parts = parted listing i entry default lt is;
+  logs = logs;
+  other = no_log entry.name other;
+}
+  where
+    no_log : (name : FileName) → ((number : ℕ) → name ≡ Log number → ⊥) → IsLog name → ⊥
+    no_log (Log number) h k = h number refl
+    no_log _ h k = k
+
+pub one_log_more : (listing : List Entry) (i : ℕ) (entry default : Entry) (number : ℕ) → i < length listing → entry ≡ get_or listing i default → AreLogs (take i listing) → entry.name ≡ Log number → AreLogs (take (i + 1) listing)
+one_log_more listing i entry default number lt is logs name =
+    subst AreLogs (sym (one_more listing i entry default lt is)) (AreLogs-push (take i listing) entry logs (subst IsLog (sym name) tt))
+
+pub one_chosen_more : (listing : List Entry) (i least : ℕ) (entry default : Entry) (before after : Option ListedLog) → i < length listing → entry ≡ get_or listing i default
+    → ((front : List Entry) → IsNextIn front least before → IsNextIn (front ++ entry ∷ []) least after) → IsNextIn (take i listing) least before → IsNextIn (take (i + 1) listing) least after
+one_chosen_more listing i least entry default before after lt is step h =
+    subst (λ (l : List Entry). IsNextIn l least after) (sym (one_more listing i entry default lt is)) (step (take i listing) h)

@@ -1,5 +1,6 @@
 -- Batches run on.
 use Rattle.std.proofs.Common.{◌≡◌, ℕ, ◌+◌, List, [], ◌∷◌, ◌++◌, length, Option, Some, None, refl, sym, ap, subst, ◌∙◌, append_assoc, arith}
+use Rattle.keel_base.specs.declared.op.Op.{Op}
 use Rattle.keel_reading.specs.declared.numbering.Gap.{Gap}
 use Rattle.keel_reading.specs.Logs.{Numbered, AreBatches, RunOn, count_ops}
 use Rattle.keel_reading.specs.Replays.{HasGapIn, RunsFrom}
@@ -70,3 +71,16 @@ runs_more log last mid end None (Some gap) (Some other) xs ys h k =
     first_gap log last xs ys other (subst (λ (g : Gap). HasGapIn log last xs g) (sym (gap_is other gap k)) h)
 runs_more log last mid end (Some gap) None after xs ys h k = absurd (no_gap_is gap h)
 runs_more log last mid end (Some gap) (Some other) after xs ys h k = k ∙ h
+
+-- ---- one batch
+
+pub one_runs : (log last seq end : ℕ) (ops : List Op) (gap : Option Gap) → gap ≡ None → seq ≡ last + 1 → end ≡ last + length ops → RunsFrom log last gap ((seq, ops) ∷ []) end None
+one_runs log last seq end ops gap none first end_is =
+    let e : end ≡ last + (length ops + 0) = omega arith in
+    subst (λ (g : Option Gap). RunsFrom log last g ((seq, ops) ∷ []) end None) (sym none) ((first, tt), e)
+
+pub one_gap : (log last seq expected : ℕ) (ops : List Op) (gap : Option Gap) → gap ≡ None → expected ≡ last + 1 → (seq ≡ expected → ⊥)
+    → RunsFrom log last gap ((seq, ops) ∷ []) last (Some (record { log = log; expected = expected; found = seq }))
+one_gap log last seq expected ops gap none is other =
+    subst (λ (g : Option Gap). RunsFrom log last g ((seq, ops) ∷ []) last (Some (record { log = log; expected = expected; found = seq }))) (sym none)
+    (record { front = []; ops = ops; behind = []; parts = refl; in_turn = tt; log_is = refl; expected_is = omega (arith, is); differs = other })

@@ -48,20 +48,19 @@ impl Numbering {
     {
         let expected = self.last + 1;
         let found = batch.seq;
-        if found == expected {
-            let last = self.last + batch.ops.len() as u64;
-            Numbering { last, gap: None }
-        } else {
-            let last = self.last;
-            let gap = Gap {
-                log,
-                expected,
-                found,
+        if found != expected {
+            return Numbering {
+                last: self.last,
+                gap: Some(Gap {
+                    log,
+                    expected,
+                    found,
+                }),
             };
-            Numbering {
-                last,
-                gap: Some(gap),
-            }
+        }
+        Numbering {
+            last: self.last + batch.ops.len() as u64,
+            gap: None,
         }
     }
 }
