@@ -7,3 +7,4 @@ pub mod Listed
 pub mod Filing
 pub mod Faults
 pub mod Standing
+pub mod Answering

@@ -1,5 +1,5 @@
 -- What the replay of one log, and of the logs before it, has found.
-use Rattle.std.specs.Prelude.{◌≡◌, ◌≢◌, ℕ, ◌+◌, List, [], ◌∷◌, ◌++◌, map, Option, Some, None, Result, Ok, Err}
+use Rattle.std.specs.Prelude.{◌≡◌, ◌≢◌, ℕ, ◌+◌, ◌≤◌, ◌^◌, List, [], ◌∷◌, ◌++◌, map, Option, Some, None, Result, Ok, Err}
 use Rattle.keel_base.specs.declared.op.Op.{Op}
 use Rattle.keel_batch.specs.declared.batch.Numbered as read
 use Rattle.keel_disk.specs.Directory.{Named}
@@ -7,6 +7,7 @@ use Rattle.keel_reading.specs.declared.refusal.OpenRefusal.{OpenRefusal}
 use Rattle.keel_reading.specs.declared.refusal.OpenRefusal.TheVariants as refusal
 use Rattle.keel_reading.specs.declared.numbering.Gap.{Gap}
 use Rattle.keel_reading.specs.declared.numbering.Numbering.{Numbering}
+use Rattle.keel_reading.specs.declared.replay.Found.{Found}
 use Rattle.keel_reading.specs.declared.replay.Replay.{Replay}
 use Rattle.keel_reading.specs.Logs.{Numbered, AreBatches, Says, log_bytes, LogsSay, RunOn, count_ops}
 use Rattle.keel_reading.specs.Reading.{BreaksAt}
@@ -52,6 +53,20 @@ abbrev pub RefusesLog : ℕ → List ℕ → OpenRefusal → Type 0
 RefusesLog log bytes (refusal.BadLog number at) = (number ≡ log) × BreaksAt bytes at
 RefusesLog log bytes refusal.OutOfMemory = Unit {0}
 RefusesLog log bytes _ = ⊥
+
+-- what all logs say, with the number of the next file
+pub record IsAllOf (replay : Replay) (next : ℕ) (found : Found) : Type 0 where
+  pub batches_are : found.batches ≡ replay.batches
+  pub last_is : found.last_seq ≡ replay.numbering.last
+  pub last_most : found.last_seq ≤ 2 ^ 56
+  pub next_is : found.next_file ≡ next
+  pub no_gap : replay.numbering.gap ≡ None
+
+-- the answer behind the last log
+abbrev pub Finishes : Replay → ℕ → Result Found OpenRefusal → Type 0
+Finishes replay next (Ok found) = IsAllOf replay next found
+Finishes replay next (Err (refusal.LogGap log expected found)) = replay.numbering.gap ≡ Some (record { log = log; expected = expected; found = found })
+Finishes replay next _ = ⊥
 
 -- the gap stands in a log of the directory, all batches before it run on from 1
 pub record IsGapOf (image : Named (List ℕ)) (gap : Gap) : Type 0 where

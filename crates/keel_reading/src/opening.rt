@@ -7,11 +7,10 @@ ghost use Rattle.keel_reading.specs.Answers.{fault_in, AreLogs, NamesOther, Read
 
 use crate::directory::{first_other, next_log};
 use crate::file::read_file;
-use crate::numbering::Gap;
 use crate::refusal::OpenRefusal;
 use crate::replay::{Found, Replay};
 use keel_base::{FileName, Listing};
-use keel_disk::{Disk, DiskError};
+use keel_disk::Disk;
 use std::alloc::Global;
 
 /// Reads the logs of a listing in order of their numbers.
@@ -34,23 +33,7 @@ fn read_listed<D: Disk>(alloc: Global, disk: &mut D, listing: &Listing) -> Resul
         replay.add_log(alloc, log.number, bytes.as_slice())?;
         least = log.number + 1;
     }
-    let Replay { batches, numbering } = replay;
-    match numbering.gap {
-        None => Ok(Found {
-            batches,
-            last_seq: numbering.last,
-            next_file: least,
-        }),
-        Some(Gap {
-            log,
-            expected,
-            found,
-        }) => Err(OpenRefusal::LogGap {
-            log,
-            expected,
-            found,
-        }),
-    }
+    replay.finish(least)
 }
 
 /// Reads all logs of the directory in order of their numbers, each up to its first bad fragment. It makes no
@@ -70,11 +53,7 @@ pub fn read_logs<D: Disk>(alloc: Global, disk: &mut D) -> Result<Found, OpenRefu
     ensures cause { FaultCounted (D.faults disk.old) (D.faults disk.new) (D.last_fault disk.new) (fault_in result) }
     ensures simulated { D.is_simulated disk.new ≡ D.is_simulated disk.old }
 {
-    let listing = match disk.list(alloc) {
-        Ok(listing) => listing,
-        Err(DiskError::Fault(fault)) => return Err(OpenRefusal::Device(fault)),
-        Err(DiskError::OutOfMemory) => return Err(OpenRefusal::OutOfMemory),
-    };
+    let listing = disk.list(alloc)?;
     match first_other(listing.as_slice()) {
         Some(file) => Err(OpenRefusal::NoCurrent { file }),
         None => read_listed(alloc, disk, &listing),

@@ -1,5 +1,6 @@
 // Why a directory isn't read.
 use keel_base::{Fault, FileName, OutOfMemory};
+use keel_disk::DiskError;
 
 /// Why a store isn't opened. The device is as it was.
 ///
@@ -27,5 +28,19 @@ impl From<OutOfMemory> for OpenRefusal {
 
     fn from(_: OutOfMemory) -> Self {
         OpenRefusal::OutOfMemory
+    }
+}
+
+impl From<DiskError> for OpenRefusal {
+    ghost use Rattle.std.specs.Prelude.{◌≡◌};
+    ghost use Rattle.keel_reading.specs.Refusals.{refusal_for};
+
+    ghost from_gives = { λ error e. e ≡ refusal_for error };
+
+    fn from(error: DiskError) -> Self {
+        match error {
+            DiskError::Fault(fault) => OpenRefusal::Device(fault),
+            DiskError::OutOfMemory => OpenRefusal::OutOfMemory,
+        }
     }
 }

@@ -1,7 +1,7 @@
 // The batches of one log after the other.
 ghost use Rattle.std.specs.Prelude.{◌≡◌, [], length, IfErr, OnOk};
 ghost use Rattle.keel_batch.specs.Spelling.{IsBatch};
-ghost use Rattle.keel_reading.specs.Replays.{AddsLog, RefusesLog};
+ghost use Rattle.keel_reading.specs.Replays.{AddsLog, Finishes, RefusesLog};
 
 use crate::numbering::Numbering;
 use crate::refusal::OpenRefusal;
@@ -61,5 +61,24 @@ impl Replay {
             }
         }
         Ok(())
+    }
+
+    /// What was read, unless there is a gap.
+    pub(crate) fn finish(self, next_file: u64) -> Result<Found, OpenRefusal>
+        ensures { Finishes self next_file result }
+    {
+        let Replay { batches, numbering } = self;
+        match numbering.gap {
+            None => Ok(Found {
+                batches,
+                last_seq: numbering.last,
+                next_file,
+            }),
+            Some(gap) => Err(OpenRefusal::LogGap {
+                log: gap.log,
+                expected: gap.expected,
+                found: gap.found,
+            }),
+        }
     }
 }
