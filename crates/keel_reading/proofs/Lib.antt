@@ -8,3 +8,4 @@ pub mod Filing
 pub mod Faults
 pub mod Standing
 pub mod Answering
+pub mod Founding

@@ -24,3 +24,6 @@ mod replay;
 pub use opening::read_logs;
 pub use refusal::OpenRefusal;
 pub use replay::Found;
+
+#[cfg(test)]
+mod tests;
