@@ -1,0 +1,6 @@
+pub mod Standing
+pub mod Batches
+pub mod Covering
+pub mod Crashing
+pub mod Steps
+pub mod Laws

@@ -1,0 +1,1 @@
+// What covering a device gives, each as the contract of a function.

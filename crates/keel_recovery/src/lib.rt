@@ -1,0 +1,15 @@
+//! What a crash may leave of a store's story, for a store that keeps logs alone.
+//!
+//! Whatever call fails and wherever a crash falls, each opening gives the map after a prefix of the order of logged
+//! writes, which holds every acknowledged synced write, unless the check of a torn record matched by chance. `laws` says
+//! it in steps: a device that the open store covers stands for the story (`covering_stands`); an opening covers what a
+//! crash left (`opening_covers`), or a first device (`first_opening`); each changing call keeps the store covering its
+//! device, whatever the answer (`create_covers` to `sync_covers`); and a crash, at rest or inside a call
+//! (`inside_create` to `inside_sync`), leaves a device that stands for a prefix of the story
+//! (`crash_leaves_prefix`, `reading_leaves_prefix`).
+//!
+//! It stands on the device's model (`keel_disk`), the log format (`keel_frag`), batches (`keel_batch`), the reading of a
+//! directory (`keel_reading`) and the machine's stories (`keel_machine`). There is nothing here to run.
+#![tactic(auto)]
+
+pub mod laws;
