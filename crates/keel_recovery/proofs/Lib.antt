@@ -4,3 +4,7 @@ pub mod TornLog
 pub mod OneReading
 pub mod Holding
 pub mod Covers
+pub mod Opened
+pub mod Crashed
+pub mod Naming
+pub mod Stepping
