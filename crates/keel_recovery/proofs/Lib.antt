@@ -8,3 +8,6 @@ pub mod Opened
 pub mod Crashed
 pub mod Naming
 pub mod Stepping
+pub mod Calls
+pub mod Inside
+pub mod Examples

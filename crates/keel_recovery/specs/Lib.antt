@@ -4,3 +4,4 @@ pub mod Covering
 pub mod Crashing
 pub mod Steps
 pub mod Laws
+pub mod Worked

@@ -1,5 +1,8 @@
-// What covering a device gives, each as the contract of a function.
+// What covering a device gives, each as the contract of a function: a proof that needs one calls it.
 ghost use Rattle.keel_recovery.specs.Laws.{CoveringStands, CrashLeavesPrefix, FirstOpening, OneReading, OpeningCovers, ReadingLeavesPrefix};
+ghost use Rattle.keel_recovery.specs.Laws.{AppendCovers, CreateCovers, PublishCovers, SyncCovers, SyncDirCovers};
+ghost use Rattle.keel_recovery.specs.Laws.{InsideAppend, InsideCreate, InsideSync, InsideSyncDir};
+ghost use Rattle.keel_recovery.specs.Worked.{TwoPuts};
 
 /// A device that an open store covers stands for its story.
 pub fn covering_stands()
@@ -29,4 +32,54 @@ pub fn crash_leaves_prefix()
 /// The same of an image that has a reading among the prefixes, as one has that a crash inside a call leaves.
 pub fn reading_leaves_prefix()
     ensures { ReadingLeavesPrefix }
+{}
+
+/// The store makes its log.
+pub fn create_covers()
+    ensures { CreateCovers }
+{}
+
+/// The store makes the name of its log firm.
+pub fn sync_dir_covers()
+    ensures { SyncDirCovers }
+{}
+
+/// The store appends the records of batches. They count as handed over whether or not the call fails.
+pub fn append_covers()
+    ensures { AppendCovers }
+{}
+
+/// The store publishes batches that want no sync.
+pub fn publish_covers()
+    ensures { PublishCovers }
+{}
+
+/// The store syncs its log, and publishes batches that must not be lost from then on.
+pub fn sync_covers()
+    ensures { SyncCovers }
+{}
+
+/// A crash while the store makes its log.
+pub fn inside_create()
+    ensures { InsideCreate }
+{}
+
+/// A crash while it makes the log's name firm.
+pub fn inside_sync_dir()
+    ensures { InsideSyncDir }
+{}
+
+/// A crash inside an append.
+pub fn inside_append()
+    ensures { InsideAppend }
+{}
+
+/// A crash inside a sync.
+pub fn inside_sync()
+    ensures { InsideSync }
+{}
+
+/// What a crash may leave of two puts, of which the first was synced.
+pub fn two_puts()
+    ensures { TwoPuts }
 {}
