@@ -1,17 +1,15 @@
 -- A call of the store keeps it covering its device, for the story behind the call.
-use Rattle.std.proofs.Common.{◌≡◌, ℕ, ◌+◌, ◌<◌, ◌≤◌, Bool, true, false, List, [], ◌∷◌, ◌++◌, length, Result, Ok, Err, refl, sym, ap, subst, ◌∙◌, arith, if◌then◌else◌}
+use Rattle.std.proofs.Common.{◌≡◌, ℕ, ◌+◌, Bool, true, false, List, [], ◌++◌, length, Ok, Err, refl, sym, ap, subst, ◌∙◌, arith, if◌then◌else◌}
 use Rattle.std.proofs.lemmas.List.{append_assoc, append-nil, length-append}
 use Rattle.keel_base.specs.Points.{Point, fold_batches}
-use Rattle.keel_base.specs.declared.op.Batch.{Batch}
 use Rattle.keel_base.specs.declared.op.Op.{Op}
 use Rattle.keel_disk.specs.declared.error.DiskError.TheVariants as error
 use Rattle.keel_frag.specs.Writing.{records_bytes}
 use Rattle.keel_machine.specs.Admission.{ops_of, count_ops}
-use Rattle.keel_machine.specs.States.{Story, point_of}
-use Rattle.keel_machine.specs.Writing.{payloads_from}
+use Rattle.keel_machine.specs.States.{Story}
 use Rattle.keel_machine.specs.WritingAfter.{handed_over, story_published}
 use Rattle.keel_recovery.specs.Batches.{payloads_behind, AreBatches}
-use Rattle.keel_recovery.specs.Covering.{Stage, Ready, Stopped, Trail, Kept, Fits, Covered}
+use Rattle.keel_recovery.specs.Covering.{Ready, Stopped, Trail, Kept, Fits, Covered}
 use Rattle.keel_recovery.specs.Laws.{CreateCovers, SyncDirCovers, AppendCovers, PublishCovers, SyncCovers}
 use Rattle.keel_recovery.specs.Steps.{Answer, trail_handed, trail_published, by_answer}
 use Rattle.keel_recovery.proofs.Numbering.{folded_append, seq_folded, payloads_same}

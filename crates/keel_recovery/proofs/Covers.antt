@@ -1,5 +1,5 @@
 -- A device that an open store covers stands for its story.
-use Rattle.std.proofs.Common.{◌≡◌, ◌⊎◌, inl, inr, ⊎_elim, ℕ, ◌+◌, ◌<◌, ◌≤◌, List, [], ◌∷◌, ◌++◌, length, take, take_all, refl, sym, ap, subst, ◌∙◌, arith}
+use Rattle.std.proofs.Common.{◌≡◌, inl, inr, ⊎_elim, ℕ, ◌+◌, ◌≤◌, List, [], ◌++◌, length, take, take_all, refl, sym, ap, subst, ◌∙◌, arith}
 use Rattle.std.proofs.lemmas.List.{append_assoc, length-append, take_at}
 use Rattle.std.proofs.Math.Seq.{take-append-add}
 use Rattle.keel_base.specs.Points.{Point, fold_batches}
@@ -16,7 +16,7 @@ use Rattle.keel_reading.specs.Reading.{ReadsBelow, Reads}
 use Rattle.keel_recovery.specs.Batches.{AreBatches}
 use Rattle.keel_recovery.specs.Covering.{Stage, NoLog, Created, Ready, Stopped, Trail, no_trail, Untouched, NameWaits, NameFirm, HoldsTrail, AtStage, Kept, Fits, Covered}
 use Rattle.keel_recovery.specs.Standing.{ReadsIn, Stands}
-use Rattle.keel_recovery.proofs.Holding.{HasOwnImage, untouched_image, untouched_read, firm_image_is, firm_read, waits_image, waits_read}
+use Rattle.keel_recovery.proofs.Holding.{untouched_image, untouched_read, firm_image_is, firm_read, waits_image, waits_read}
 use Rattle.keel_recovery.proofs.MoreLogs.{nothing_said, reads_more}
 use Rattle.keel_recovery.proofs.Numbering.{folded_append}
 use Rattle.keel_recovery.proofs.TornLog.{SayFirst, torn_says}
@@ -63,7 +63,7 @@ module _ (log : ℕ) (held : Named (List ℕ)) (base : Point) (reads : ReadsBelo
       let is_image : IsImage file.firm file.meant own.bytes = record { least = own.is_image.no_shorter; most = own.is_image.no_longer; agrees = own.is_image.agrees } in
       prefix_reads trail trail.floor image own.bytes
       (torn_says base.seq (trail.log ++ trail.limbo) file.firm trail.floor file.meant own.bytes batches holds.meant_is
-        (omega (arith, floor, length-append trail.log trail.limbo)) holds.firm_to is_image own.plain) own.image_is
+      (omega (arith, floor, length-append trail.log trail.limbo)) holds.firm_to is_image own.plain) own.image_is
 
   read_is_image : (meant read unread : List ℕ) → meant ≡ read ++ unread → IsImage (length read) meant read
   read_is_image meant read unread e = record {
@@ -77,8 +77,8 @@ module _ (log : ℕ) (held : Named (List ℕ)) (base : Point) (reads : ReadsBelo
   holds_now file trail state batches firm holds =
       prefix_reads trail (length trail.log) (image_read state) file.read
       (torn_says base.seq (trail.log ++ trail.limbo) (length file.read) (length trail.log) file.meant file.read batches holds.meant_is
-        (omega (arith, length-append trail.log trail.limbo)) holds.read_to
-        (read_is_image file.meant file.read holds.unread holds.read_is) (fronts_are_plain file.meant file.read holds.unread holds.read_is))
+      (omega (arith, length-append trail.log trail.limbo)) holds.read_to
+      (read_is_image file.meant file.read holds.unread holds.read_is) (fronts_are_plain file.meant file.read holds.unread holds.read_is))
       (firm_read held log file state firm)
 
 no_floor : (trail : Trail) → trail ≡ no_trail → trail.floor ≡ 0

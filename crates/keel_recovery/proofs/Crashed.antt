@@ -1,5 +1,5 @@
 -- A crash leaves a device at rest, which stands for a prefix of the story.
-use Rattle.std.proofs.Common.{◌≡◌, ℕ, ◌+◌, ◌<◌, ◌≤◌, List, [], ◌∷◌, ◌++◌, length, take, refl, sym, ap, subst, ◌∙◌, arith, take_all}
+use Rattle.std.proofs.Common.{◌≡◌, ℕ, ◌+◌, ◌≤◌, List, [], ◌∷◌, ◌++◌, length, take, refl, sym, ap, subst, ◌∙◌, arith, take_all}
 use Rattle.std.proofs.lemmas.List.{append_assoc, append-nil, length-append, length-take}
 use Rattle.std.proofs.Math.Seq.{get_or-append_seam}
 use Rattle.keel_base.specs.Points.{fold_batches}

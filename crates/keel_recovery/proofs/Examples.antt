@@ -1,5 +1,5 @@
 -- The worked story.
-use Rattle.std.proofs.Common.{◌≡◌, ◌⊎◌, inl, inr, ℕ, zero, suc, ◌+◌, ◌≤◌, ◌++◌, length, take, ap, arith}
+use Rattle.std.proofs.Common.{◌≡◌, ◌⊎◌, inl, inr, ℕ, zero, suc, ◌≤◌, ◌++◌, take, arith}
 use Rattle.keel_base.specs.Points.{Point, fold_batches}
 use Rattle.keel_recovery.specs.Worked.{two_puts, behind_one, behind_both, TwoPuts}
 

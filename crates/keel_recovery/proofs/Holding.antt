@@ -1,15 +1,13 @@
 -- What each image has, where the older files are firm.
-use Rattle.std.proofs.Common.{◌≡◌, ◌⊎◌, inl, inr, ℕ, zero, suc, ◌+◌, ◌<◌, ◌≤◌, true, false, List, [], ◌∷◌, ◌++◌, length, take, Some, refl, sym, ap, ap₂, subst, ◌∙◌, arith, take_all, if◌then◌else◌, get_or-set_other, get_or-set_same, length-set, length-append}
-use Rattle.std.proofs.lemmas.List.{get_or_append_left, get_or_push}
+use Rattle.std.proofs.Common.{◌≡◌, ◌⊎◌, inl, inr, ℕ, zero, suc, ◌<◌, true, false, List, [], ◌∷◌, length, take, refl, sym, ap, subst, ◌∙◌, arith, take_all, if◌then◌else◌}
 use Rattle.keel_base.specs.declared.file_name.FileName.{FileName}
 use Rattle.keel_base.specs.declared.file_name.FileName.TheVariants.{Log}
 use Rattle.keel_base.specs.Name.{name_eq}
-use Rattle.keel_base.proofs.Names.{name_eq-same, name_eq-true}
 use Rattle.keel_disk.specs.declared.state.File.{File}
 use Rattle.keel_disk.specs.declared.state.Operation.{Operation}
 use Rattle.keel_disk.specs.declared.state.Operation.TheVariants.{Link}
-use Rattle.keel_disk.specs.Directory.{Named, find, unlinked, linked, operated_all}
-use Rattle.keel_disk.specs.State.{State, file_at, new_file, files_operated_all, settled_through}
+use Rattle.keel_disk.specs.Directory.{Named, unlinked, linked, operated_all}
+use Rattle.keel_disk.specs.State.{State, file_at, new_file, files_operated_all}
 use Rattle.keel_disk.specs.Image.{IsFileImage, AreImages}
 use Rattle.keel_disk.proofs.Images.{firm_image}
 use Rattle.keel_frag.specs.Images.{IsPlain}

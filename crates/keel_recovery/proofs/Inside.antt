@@ -1,5 +1,5 @@
 -- A crash inside a call leaves a prefix of the story before it, or of the one behind its Ok.
-use Rattle.std.proofs.Common.{◌≡◌, ◌⊎◌, inl, inr, ⊎_elim, ℕ, ◌+◌, false, true, List, length, Option, Some, None, Ok, Err, IsSomeAnd, refl}
+use Rattle.std.proofs.Common.{◌≡◌, ◌⊎◌, inl, inr, ⊎_elim, ℕ, ◌+◌, false, true, List, length, Option, Some, None, Ok, IsSomeAnd, refl}
 use Rattle.keel_base.specs.Points.{fold_batches}
 use Rattle.keel_base.specs.declared.file_name.FileName.TheVariants.{Log}
 use Rattle.keel_disk.specs.declared.change.Change.{Change}
@@ -49,11 +49,11 @@ inside_append point trail number size batches bytes state story h none limits by
           (λ after did. stands point handed (Ready number (size + length bytes)) after tried (next after did)),
       inside state (Append (Log number) bytes) story (story_published false tried) was
           (λ after did. stands (fold_batches point handed.limbo) (trail_published false handed) (Ready number (size + length bytes)) after (story_published false tried)
-            (publish_covers point handed number (size + length bytes) after tried (next after did))),
+          (publish_covers point handed number (size + length bytes) after tried (next after did))),
     )
 
 pub inside_sync : InsideSync
 inside_sync point trail number size state story h =
     inside state (Sync (Log number)) story (story_published true story) (stands point trail (Ready number size) state story h)
     (λ after did. stands (fold_batches point trail.limbo) (trail_published true trail) (Ready number size) after (story_published true story)
-      (sync_covers point trail number size state after (Ok tt) story h did))
+    (sync_covers point trail number size state after (Ok tt) story h did))

@@ -1,5 +1,5 @@
 -- A directory's reading, where one later log is added.
-use Rattle.std.proofs.Common.{◌≡◌, ℕ, zero, suc, ◌+◌, ◌<◌, ◌≤◌, Bool, true, false, List, [], ◌∷◌, ◌++◌, length, map, Option, Some, None, unwrap_or, refl, sym, ap, subst, ◌∙◌, arith, if◌then◌else◌, eqb, eqb-true}
+use Rattle.std.proofs.Common.{◌≡◌, ℕ, zero, suc, ◌+◌, ◌<◌, ◌≤◌, Bool, true, false, List, [], ◌∷◌, ◌++◌, Option, Some, None, unwrap_or, refl, sym, ap, subst, ◌∙◌, arith, if◌then◌else◌, eqb, eqb-true}
 use Rattle.std.proofs.lemmas.List.{map-append}
 use Rattle.keel_base.specs.Points.{Point, origin, fold_batches}
 use Rattle.keel_base.specs.declared.file_name.FileName.{FileName}

@@ -1,19 +1,17 @@
 -- The name of the store's own log, through the calls that make it, and its file through the others.
-use Rattle.std.proofs.Common.{◌≡◌, ◌⊎◌, inl, inr, ℕ, zero, suc, ◌+◌, ◌==◌, ◌<◌, ◌≤◌, true, false, List, [], ◌∷◌, ◌++◌, length, take, drop, Option, Some, None, Result, Ok, Err, refl, sym, ap, subst, ◌∙◌, arith, take_all, if◌then◌else◌, unwrap_or, option_map, option_and_then, MatchOption, get_or-set_other, get_or-set_same, length-set, length-append, set}
+use Rattle.std.proofs.Common.{◌≡◌, ◌⊎◌, inl, inr, ℕ, zero, suc, ◌==◌, true, false, List, [], ◌∷◌, ◌++◌, length, take, drop, Some, refl, sym, ap, subst, ◌∙◌, arith, take_all, if◌then◌else◌, get_or-set_other, get_or-set_same, length-set, length-append, set}
 use Rattle.std.proofs.lemmas.List.{get_or_append_left, get_or_push, drop_all}
 use Rattle.keel_base.specs.declared.file_name.FileName.TheVariants.{Log}
-use Rattle.keel_disk.specs.declared.error.DiskError.{DiskError}
-use Rattle.keel_disk.specs.declared.error.DiskError.TheVariants as error
 use Rattle.keel_disk.specs.declared.state.File.{File}
 use Rattle.keel_disk.specs.declared.state.Operation.{Operation}
 use Rattle.keel_disk.specs.declared.state.Operation.TheVariants.{Link}
 use Rattle.keel_disk.specs.declared.change.Change.TheVariants.{Create, Append, Sync, SyncDir}
-use Rattle.keel_disk.specs.Directory.{Named, find, linked, operated_all}
-use Rattle.keel_disk.specs.State.{State, file_at, new_file, files_operated_all, settled_through, file_of, has_waiting_cut}
+use Rattle.keel_disk.specs.Directory.{Named}
+use Rattle.keel_disk.specs.State.{State, file_at, new_file, settled_through, file_of, has_waiting_cut}
 use Rattle.keel_base.specs.declared.failure.Fault.{Fault}
 use Rattle.keel_disk.specs.Step.{done, failed, FailsTo, extended, spoiled, synced, with_file, created}
 use Rattle.keel_disk.proofs.Directories.{find-linked}
-use Rattle.keel_recovery.specs.Covering.{AreHeld, Untouched, HasOwn, NameWaits, NameFirm}
+use Rattle.keel_recovery.specs.Covering.{Untouched, HasOwn, NameWaits, NameFirm}
 use Rattle.keel_recovery.proofs.Holding.{held_files}
 
 -- ---- create

@@ -1,12 +1,12 @@
 -- Batches that are numbered on.
-use Rattle.std.proofs.Common.{◌≡◌, ℕ, zero, suc, ◌+◌, ◌-◌, ◌≤◌, List, [], ◌∷◌, ◌++◌, length, map, take, Result, Ok, Err, refl, sym, ap, subst, ◌∙◌, arith}
+use Rattle.std.proofs.Common.{◌≡◌, ℕ, zero, suc, ◌+◌, ◌-◌, List, [], ◌∷◌, ◌++◌, length, map, take, Result, Ok, Err, refl, ap, subst, ◌∙◌, arith}
 use Rattle.keel_base.specs.Points.{Point, after_batch, fold_batches}
 use Rattle.keel_base.specs.declared.op.Batch.{Batch}
 use Rattle.keel_base.specs.declared.op.Op.{Op}
 use Rattle.keel_batch.specs.declared.batch.Numbered.{Numbered as Found}
 use Rattle.keel_batch.specs.declared.batch.BatchError.TheVariants as errors
 use Rattle.keel_batch.specs.Spelling.{spelling, IsBatch}
-use Rattle.keel_batch.specs.Reading.{batch_of, Is}
+use Rattle.keel_batch.specs.Reading.{batch_of}
 use Rattle.keel_batch.proofs.Laws.{decoded_only}
 use Rattle.keel_machine.specs.Admission.{ops_of as ops_of_batches, count_ops as count}
 use Rattle.keel_machine.specs.Writing.{payloads_from}

@@ -1,5 +1,5 @@
 -- A directory has one reading.
-use Rattle.std.proofs.Common.{◌≡◌, ℕ, zero, suc, ◌+◌, ◌<◌, ◌≤◌, Bool, true, false, List, [], ◌∷◌, ◌++◌, length, map, Option, Some, None, unwrap_or, Result, Ok, Err, refl, sym, ap, subst, ◌∙◌, arith, if◌then◌else◌}
+use Rattle.std.proofs.Common.{◌≡◌, ℕ, zero, suc, ◌+◌, ◌≤◌, Bool, true, false, List, [], ◌∷◌, ◌++◌, length, Option, None, unwrap_or, Result, Ok, refl, sym, ap, subst, ◌∙◌, arith}
 use Rattle.std.proofs.lemmas.List.{append-nil}
 use Rattle.keel_base.specs.Points.{Point, origin, fold_batches}
 use Rattle.keel_base.specs.declared.file_name.FileName.{FileName}
@@ -7,7 +7,6 @@ use Rattle.keel_base.specs.declared.file_name.FileName.TheVariants.{Log}
 use Rattle.keel_base.specs.Name.{name_eq}
 use Rattle.keel_base.proofs.Names.{name_eq-true}
 use Rattle.keel_disk.specs.Directory.{Named, find}
-use Rattle.keel_frag.specs.declared.record.LogRecord.{LogRecord}
 use Rattle.keel_frag.specs.Pieces.{Progress}
 use Rattle.keel_frag.proofs.Fronts.{one_reading}
 use Rattle.keel_reading.specs.Logs.{Numbered, ops_of, batches_in, all_read, Says, log_bytes, LogsSay}

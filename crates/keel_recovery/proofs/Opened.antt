@@ -1,13 +1,13 @@
 -- An opening covers its device.
-use Rattle.std.proofs.Common.{◌≡◌, ℕ, ◌+◌, ◌<◌, ◌≤◌, List, [], ◌∷◌, ◌++◌, length, take, refl, sym, ap, subst, ◌∙◌, arith, take_all}
+use Rattle.std.proofs.Common.{◌≡◌, ℕ, List, [], ◌∷◌, ◌++◌, length, take, refl, sym, ap, subst, ◌∙◌, arith, take_all}
 use Rattle.std.proofs.lemmas.List.{append-nil}
 use Rattle.keel_base.specs.Points.{Point, fold_batches}
 use Rattle.keel_base.specs.declared.op.Op.{Op}
 use Rattle.keel_disk.specs.declared.state.File.{File}
 use Rattle.keel_disk.specs.Directory.{Named}
 use Rattle.keel_disk.specs.State.{State}
-use Rattle.keel_disk.specs.Image.{AllFirm, AreImages, Image}
-use Rattle.keel_disk.specs.Plain.{PlainImage, bytes_read, image_read}
+use Rattle.keel_disk.specs.Image.{AllFirm}
+use Rattle.keel_disk.specs.Plain.{bytes_read, image_read}
 use Rattle.keel_disk.specs.Sound.{AreOwn, IsAtRest}
 use Rattle.keel_disk.proofs.Resting.{rest_has_one}
 use Rattle.keel_machine.specs.States.{Story}

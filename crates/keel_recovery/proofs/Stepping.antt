@@ -1,22 +1,19 @@
 -- What a store keeps, through each of its calls.
-use Rattle.std.proofs.Common.{◌≡◌, ◌⊎◌, inl, inr, ⊎_elim, ℕ, ◌+◌, ◌<◌, ◌≤◌, Bool, true, false, List, [], ◌∷◌, ◌++◌, length, take, drop, map, Some, None, Result, Ok, Err, refl, sym, ap, subst, ◌∙◌, arith, take_all, take-append-drop, if◌then◌else◌}
+use Rattle.std.proofs.Common.{◌≡◌, inl, inr, ⊎_elim, ℕ, ◌+◌, ◌≤◌, true, false, List, [], ◌++◌, length, take, drop, Some, Ok, Err, refl, sym, ap, subst, ◌∙◌, arith, take_all, take-append-drop}
 use Rattle.std.proofs.lemmas.List.{append_assoc, append-nil, length-append, take-append-le}
-use Rattle.keel_base.specs.Points.{Point, fold_batches}
-use Rattle.keel_base.specs.declared.failure.Fault.{Fault}
+use Rattle.keel_base.specs.Points.{Point}
 use Rattle.keel_base.specs.declared.file_name.FileName.TheVariants.{Log}
-use Rattle.keel_base.specs.declared.op.Batch.{Batch}
 use Rattle.keel_base.specs.declared.op.Op.{Op}
 use Rattle.keel_disk.specs.declared.error.DiskError.TheVariants as error
 use Rattle.keel_disk.specs.declared.state.File.{File}
 use Rattle.keel_disk.specs.declared.change.Change.TheVariants.{Create, Append, Sync, SyncDir}
-use Rattle.keel_disk.specs.Directory.{Named}
 use Rattle.keel_disk.specs.State.{State, new_file}
 use Rattle.keel_disk.specs.Step.{DiskStep, FailsTo, done, extended, spoiled, synced}
 use Rattle.keel_frag.specs.Writing.{records_bytes}
 use Rattle.keel_frag.proofs.Continuing.{going_on}
 use Rattle.keel_machine.specs.Admission.{count_ops}
 use Rattle.keel_recovery.specs.Batches.{payloads_behind, AreBatches}
-use Rattle.keel_recovery.specs.Covering.{Stage, NoLog, Created, Ready, Stopped, Trail, no_trail, Untouched, NameWaits, NameFirm, payloads_in, size_of_first, HoldsTrail, IsWhole, LogHolds, LogGoesOn, AtStage, Kept}
+use Rattle.keel_recovery.specs.Covering.{NoLog, Created, Ready, Stopped, Trail, no_trail, NameWaits, payloads_in, size_of_first, HoldsTrail, IsWhole, Kept}
 use Rattle.keel_recovery.specs.Steps.{Answer, trail_handed, trail_published, by_answer}
 use Rattle.keel_recovery.proofs.Naming.{create_ok, create_failed, sync_dir_ok, sync_dir_failed, append_ok, append_failed, sync_ok, sync_failed}
 use Rattle.keel_recovery.proofs.Numbering.{batches_append, payloads_append, payloads_length}

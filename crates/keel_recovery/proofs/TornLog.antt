@@ -1,14 +1,14 @@
 -- What a torn image of the store's own log says.
-use Rattle.std.proofs.Common.{◌≡◌, ℕ, ◌+◌, ◌≤◌, List, [], ◌∷◌, ◌++◌, length, map, take, refl, sym, ap, subst, ◌∙◌, arith}
+use Rattle.std.proofs.Common.{◌≡◌, ℕ, ◌≤◌, List, [], ◌∷◌, length, map, take, refl, ap, ◌∙◌, arith}
 use Rattle.keel_base.specs.declared.op.Op.{Op}
 use Rattle.keel_batch.specs.Reading.{batch_of}
 use Rattle.keel_frag.specs.declared.record.LogRecord.{LogRecord}
 use Rattle.keel_frag.specs.Images.{IsImage, IsPlain}
-use Rattle.keel_frag.specs.Writing.{records_bytes, records_at, payloads_of}
+use Rattle.keel_frag.specs.Writing.{records_bytes, payloads_of}
 use Rattle.keel_frag.proofs.Existing.{has_records}
 use Rattle.keel_frag.proofs.TornRecords.{torn_records}
 use Rattle.keel_frag.proofs.Continuing.{payloads_stay}
-use Rattle.keel_reading.specs.Logs.{Numbered, batches_in, all_read, Says}
+use Rattle.keel_reading.specs.Logs.{batches_in, all_read, Says}
 use Rattle.keel_recovery.specs.Batches.{numbered, payloads_behind, AreBatches}
 use Rattle.keel_recovery.specs.Covering.{size_of_first}
 use Rattle.keel_recovery.proofs.Numbering.{batches_take, payloads_take, payloads_length, each_again}

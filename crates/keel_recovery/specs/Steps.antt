@@ -1,5 +1,5 @@
 -- How a trail goes on.
-use Rattle.std.specs.Prelude.{Bool, List, [], ◌∷◌, ◌++◌, length, if◌then◌else◌, Result, Ok, Err}
+use Rattle.std.specs.Prelude.{Bool, List, [], ◌++◌, length, if◌then◌else◌, Result, Ok, Err}
 use Rattle.keel_base.specs.declared.op.Op.{Op}
 use Rattle.keel_disk.specs.declared.error.DiskError.{DiskError}
 use Rattle.keel_disk.specs.declared.error.DiskError.TheVariants as error
