@@ -10,4 +10,5 @@ pub mod Naming
 pub mod Stepping
 pub mod Calls
 pub mod Inside
+pub mod Found
 pub mod Examples

@@ -18,7 +18,7 @@ use Rattle.keel_machine.specs.WritingAfter.{handed_over, story_published}
 use Rattle.keel_reading.specs.Reading.{ReadsBelow, Reads}
 use Rattle.keel_recovery.specs.Batches.{AreBatches}
 use Rattle.keel_recovery.specs.Covering.{Stage, NoLog, Created, Ready, Stopped, Trail, no_trail, Covered}
-use Rattle.keel_recovery.specs.Crashing.{IsAfterCrash, new_story, LeavesPrefix, InsideCall}
+use Rattle.keel_recovery.specs.Crashing.{IsAfterCrash, new_story, LeavesPrefix, FindsPrefix, FindsPublished, InsideCall}
 use Rattle.keel_recovery.specs.Standing.{ReadsIn, Stands}
 use Rattle.keel_recovery.specs.Steps.{Answer, trail_handed, trail_published, by_answer}
 
@@ -55,6 +55,19 @@ abbrev pub ReadingLeavesPrefix : Type 0
 ReadingLeavesPrefix =
     (story : Story) (image : Named (List ℕ))
     → IsAtRest (restarted image) → ReadsIn story story.floor image → LeavesPrefix image story
+
+-- Whatever the store was doing: an opening behind a crash finds a prefix of the order of logged writes that holds every
+-- acknowledged synced one. The image is one without a fragment that is good by chance.
+abbrev pub OpeningFindsPrefix : Type 0
+OpeningFindsPrefix =
+    (state : State) (story : Story) (image : Named (List ℕ)) (number : ℕ) (point : Point)
+    → IsSound state → Stands state story → PlainImage state image → ReadsBelow number (image_read (restarted image)) point
+    → FindsPrefix image story number point
+
+-- An opening of any device that stands for a story finds all published batches, and the device stands on for the story
+-- in which those of limbo that were found are published.
+abbrev pub OpeningFindsPublished : Type 0
+OpeningFindsPublished = (state : State) (story : Story) (point : Point) → Stands state story → Reads (image_read state) point → FindsPublished state story point
 
 -- ---- the calls of an open store
 

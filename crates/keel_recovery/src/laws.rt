@@ -1,5 +1,5 @@
 // What covering a device gives, each as the contract of a function: a proof that needs one calls it.
-ghost use Rattle.keel_recovery.specs.Laws.{CoveringStands, CrashLeavesPrefix, FirstOpening, OneReading, OpeningCovers, ReadingLeavesPrefix};
+ghost use Rattle.keel_recovery.specs.Laws.{CoveringStands, CrashLeavesPrefix, FirstOpening, OneReading, OpeningCovers, OpeningFindsPrefix, OpeningFindsPublished, ReadingLeavesPrefix};
 ghost use Rattle.keel_recovery.specs.Laws.{AppendCovers, CreateCovers, PublishCovers, SyncCovers, SyncDirCovers};
 ghost use Rattle.keel_recovery.specs.Laws.{InsideAppend, InsideCreate, InsideSync, InsideSyncDir};
 ghost use Rattle.keel_recovery.specs.Worked.{TwoPuts};
@@ -32,6 +32,16 @@ pub fn crash_leaves_prefix()
 /// The same of an image that has a reading among the prefixes, as one has that a crash inside a call leaves.
 pub fn reading_leaves_prefix()
     ensures { ReadingLeavesPrefix }
+{}
+
+/// What is opened behind a crash is a prefix of the order of logged writes, with every acknowledged synced one.
+pub fn opening_finds_prefix()
+    ensures { OpeningFindsPrefix }
+{}
+
+/// What is opened without a crash has all that was published. The device needn't be at rest then, so this is no covering.
+pub fn opening_finds_published()
+    ensures { OpeningFindsPublished }
 {}
 
 /// The store makes its log.

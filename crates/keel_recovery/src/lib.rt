@@ -6,7 +6,7 @@
 //! crash left (`opening_covers`), or a first device (`first_opening`); each changing call keeps the store covering its
 //! device, whatever the answer (`create_covers` to `sync_covers`); and a crash, at rest or inside a call
 //! (`inside_create` to `inside_sync`), leaves a device that stands for a prefix of the story
-//! (`crash_leaves_prefix`, `reading_leaves_prefix`).
+//! (`crash_leaves_prefix`, `reading_leaves_prefix`). `opening_finds_prefix` draws the conclusion for the next opening.
 //!
 //! It stands on the device's model (`keel_disk`), the log format (`keel_frag`), batches (`keel_batch`), the reading of a
 //! directory (`keel_reading`) and the machine's stories (`keel_machine`). There is nothing here to run.
