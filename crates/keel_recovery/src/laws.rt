@@ -2,7 +2,7 @@
 ghost use Rattle.keel_recovery.specs.Laws.{CoveringStands, CrashLeavesPrefix, FirstOpening, OneReading, OpeningCovers, OpeningFindsPrefix, OpeningFindsPublished, ReadingLeavesPrefix};
 ghost use Rattle.keel_recovery.specs.Laws.{AppendCovers, CreateCovers, PublishCovers, SyncCovers, SyncDirCovers};
 ghost use Rattle.keel_recovery.specs.Laws.{InsideAppend, InsideCreate, InsideSync, InsideSyncDir};
-ghost use Rattle.keel_recovery.specs.Worked.{TwoPuts};
+ghost use Rattle.keel_recovery.specs.Worked.{FirstBatch, TwoPuts};
 
 /// A device that an open store covers stands for its story.
 pub fn covering_stands()
@@ -92,4 +92,9 @@ pub fn inside_sync()
 /// What a crash may leave of two puts, of which the first was synced.
 pub fn two_puts()
     ensures { TwoPuts }
+{}
+
+/// The first synced batch of a new store, call by call on an empty device.
+pub fn first_batch()
+    ensures { FirstBatch }
 {}
