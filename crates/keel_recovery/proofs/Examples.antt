@@ -1,23 +1,18 @@
 -- The worked story and the worked device.
-use Rattle.std.proofs.Common.{◌≡◌, ◌⊎◌, inl, inr, ℕ, zero, suc, ◌+◌, ◌≤◌, false, List, [], ◌∷◌, ◌++◌, length, take, take_all, Some, Ok, refl, ap, subst, arith}
+use Rattle.std.proofs.Common.{◌≡◌, ◌⊎◌, inl, inr, ℕ, zero, suc, ◌+◌, ◌≤◌, false, List, [], ◌∷◌, ◌++◌, length, take, take_all, Ok, refl, subst, arith}
 use Rattle.std.proofs.lemmas.List.Elements.{All-nil}
 use Rattle.keel_base.specs.Points.{Point, origin, after_batch, fold_batches}
 use Rattle.keel_base.specs.declared.file_name.FileName.TheVariants.{Log}
-use Rattle.keel_base.specs.declared.op.Batch.{Batch}
 use Rattle.keel_disk.specs.declared.state.File.{File}
 use Rattle.keel_disk.specs.declared.state.Operation.{Operation}
 use Rattle.keel_disk.specs.declared.state.Operation.TheVariants.{Link}
-use Rattle.keel_disk.specs.declared.change.Change.TheVariants.{Create, Append, Sync, SyncDir}
-use Rattle.keel_disk.specs.Directory.{Named}
 use Rattle.keel_disk.specs.State.{State, new_file}
-use Rattle.keel_disk.specs.Step.{done}
 use Rattle.keel_disk.specs.Sound.{IsFile, IsAtRest}
 use Rattle.keel_machine.specs.States.{Story}
 use Rattle.keel_reading.specs.Reading.{ReadsBelow}
-use Rattle.keel_recovery.specs.Batches.{AreBatches}
-use Rattle.keel_recovery.specs.Covering.{Stage, NoLog, Created, Ready, Trail, no_trail, Covered}
+use Rattle.keel_recovery.specs.Covering.{NoLog, Ready, Trail, no_trail, Covered}
 use Rattle.keel_recovery.specs.Crashing.{new_story}
-use Rattle.keel_recovery.specs.Worked.{two_puts, behind_one, behind_both, TwoPuts, first_bytes, one_log, FirstBatch}
+use Rattle.keel_recovery.specs.Worked.{two_puts, behind_one, behind_both, TwoPuts, first_bytes, FirstBatch}
 use Rattle.keel_recovery.proofs.Calls.{create_covers, sync_dir_covers, append_covers, sync_covers}
 use Rattle.keel_recovery.proofs.MoreLogs.{nothing_said}
 use Rattle.keel_recovery.proofs.Opened.{opened_covers, first_stands}
@@ -72,4 +67,4 @@ first_batch_holds batch limits =
     let handed : Covered origin trail (Ready 1 (length bytes)) appended story = subst (λ (n : ℕ). Covered origin trail (Ready 1 n) appended story) size (append_covers origin no_trail 1 0 (batch ∷ []) bytes (named new_file) appended (Ok tt) (new_story origin) ready refl limits refl refl) in
     let covered = sync_covers origin trail 1 (length bytes) appended synced (Ok tt) story handed refl in
     subst (λ (read : List ℕ). Covered (after_batch origin ops) (record { log = ops ∷ []; limbo = []; floor = 1 }) (Ready 1 (length bytes)) (named (record { meant = bytes; firm = length bytes; spoilt = false; read = read }))
-      (record { start = origin; log = ops ∷ []; limbo = []; floor = 1 })) (take_all (length bytes) bytes (omega arith)) covered
+    (record { start = origin; log = ops ∷ []; limbo = []; floor = 1 })) (take_all (length bytes) bytes (omega arith)) covered

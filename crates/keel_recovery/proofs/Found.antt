@@ -4,13 +4,12 @@ use Rattle.std.proofs.lemmas.List.{append_assoc, length-append, length-take}
 use Rattle.std.proofs.Math.Seq.{take-append-add}
 use Rattle.keel_base.specs.Points.{Point, fold_batches}
 use Rattle.keel_base.specs.declared.op.Op.{Op}
-use Rattle.keel_disk.specs.Directory.{Named}
 use Rattle.keel_disk.specs.Image.{restarted}
 use Rattle.keel_disk.specs.Plain.{image_read}
-use Rattle.keel_machine.specs.States.{Story, point_of}
+use Rattle.keel_machine.specs.States.{Story}
 use Rattle.keel_recovery.specs.Crashing.{cut_story, moved_story}
 use Rattle.keel_recovery.specs.Laws.{OpeningFindsPrefix, OpeningFindsPublished}
-use Rattle.keel_recovery.specs.Standing.{InPrefixes, ReadsIn}
+use Rattle.keel_recovery.specs.Standing.{InPrefixes}
 use Rattle.keel_recovery.proofs.Crashed.{crash_leaves}
 use Rattle.keel_recovery.proofs.OneReading.{reads_once}
 use Rattle.keel_recovery.proofs.Opened.{opened_covers}
