@@ -4,7 +4,7 @@
 //! writes, which holds every acknowledged synced write, unless the check of a torn record matched by chance. `laws` says
 //! it in steps: a device that the open store covers stands for the story (`covering_stands`); an opening covers what a
 //! crash left (`opening_covers`), or a first device (`first_opening`); each changing call keeps the store covering its
-//! device, whatever the answer (`create_covers` to `sync_covers`); and a crash, at rest or inside a call
+//! device, whatever the answer (`create_covers` to `sync_covers`); and a crash, between calls or inside one
 //! (`inside_create` to `inside_sync`), leaves a device that stands for a prefix of the story
 //! (`crash_leaves_prefix`, `reading_leaves_prefix`). `opening_finds_prefix` draws the conclusion for the next opening.
 //!
