@@ -11,4 +11,6 @@ pub mod Stepping
 pub mod Calls
 pub mod Inside
 pub mod Found
+pub mod Places
+pub mod Acts
 pub mod Examples

@@ -4,4 +4,5 @@ pub mod Covering
 pub mod Crashing
 pub mod Steps
 pub mod Laws
+pub mod Machine
 pub mod Worked
