@@ -13,4 +13,6 @@ pub mod Inside
 pub mod Found
 pub mod Places
 pub mod Acts
+pub mod Turning
+pub mod Machine
 pub mod Examples

@@ -1,6 +1,6 @@
 -- A call of a group keeps an open store covering its device, by the place where the group is.
-use Rattle.std.proofs.Common.{◌≡◌, ◌⊎◌, inl, inr, ℕ, ◌+◌, Bool, true, false, List, [], ◌∷◌, ◌++◌, length, map, Option, Some, None, Ok, Err, refl, sym, ap, subst, ◌∙◌, arith, if◌then◌else◌}
-use Rattle.std.proofs.lemmas.List.{append_assoc, append-nil}
+use Rattle.std.proofs.Common.{◌≡◌, inl, inr, ℕ, ◌+◌, Bool, true, false, List, [], ◌∷◌, ◌++◌, length, Option, Some, None, Ok, Err, refl, sym, ap, subst, ◌∙◌, arith}
+use Rattle.std.proofs.lemmas.List.{append_assoc}
 use Rattle.keel_base.specs.Points.{Point, fold_batches}
 use Rattle.keel_base.specs.declared.failure.Failure.{Failure}
 use Rattle.keel_base.specs.declared.failure.Fault.{Fault}
@@ -8,21 +8,20 @@ use Rattle.keel_base.specs.declared.file_name.FileName.TheVariants.{Log}
 use Rattle.keel_base.specs.declared.op.Batch.{Batch}
 use Rattle.keel_base.specs.declared.op.Op.{Op}
 use Rattle.keel_disk.specs.declared.change.Change.TheVariants.{Create, Append, Sync, SyncDir}
-use Rattle.keel_disk.specs.declared.error.DiskError.{DiskError}
 use Rattle.keel_disk.specs.declared.error.DiskError.TheVariants as error
 use Rattle.keel_disk.specs.State.{State as Disk}
 use Rattle.keel_disk.specs.Step.{DiskStep}
 use Rattle.keel_frag.specs.Writing.{records_bytes}
 use Rattle.keel_machine.specs.Admission.{ops_of, count_ops}
-use Rattle.keel_machine.specs.States.{Story, OwnLog, Group, Ticketed, Act, MakeLog, SyncDirectory, AddRecords, SyncLog, point_of}
+use Rattle.keel_machine.specs.States.{Story, OwnLog, Group, Ticketed, Act, SyncDirectory, SyncLog, point_of}
 use Rattle.keel_machine.specs.Writing.{payloads_from}
 use Rattle.keel_machine.specs.WritingAfter.{handed_over, story_published}
 use Rattle.keel_recovery.specs.Batches.{AreBatches}
-use Rattle.keel_recovery.specs.Covering.{Stage, NoLog, Created, Ready, Stopped, Trail, Covered}
-use Rattle.keel_recovery.specs.Machine.{calls_from_append, AwaitsAppend, AwaitsSync, ops_waiting, IsCoveredIn}
+use Rattle.keel_recovery.specs.Covering.{Stage, Ready, Trail, Covered}
+use Rattle.keel_recovery.specs.Machine.{calls_from_append, ops_waiting, IsCoveredIn}
 use Rattle.keel_recovery.specs.Steps.{Answer, trail_handed, trail_published}
 use Rattle.keel_recovery.proofs.Calls.{create_covers, sync_dir_covers, append_covers, publish_covers, sync_covers}
-use Rattle.keel_recovery.proofs.Numbering.{folded_append, seq_folded, batches_append}
+use Rattle.keel_recovery.proofs.Numbering.{folded_append, seq_folded}
 
 abbrev pub went_well : Answer
 went_well = Ok tt
@@ -146,8 +145,11 @@ module _ (before after : Disk) (story : Story) (waiting : List Ticketed) (ticket
         trail = trail_published true h.trail;
         covered = at_story (fold_batches point h.trail.limbo) (trail_published true h.trail) (Ready own.number own.size) after (story_published true story)
             (sync_covers point h.trail own.number own.size before after went_well story h.covered step);
-        order = (refl, published_order story (ops_waiting waiting)
-            (subst (λ (b : List Batch). AreBatches point.seq (story.limbo ++ (ops_of b ++ ops_waiting waiting))) none h.order.1));
+        order = (
+          refl,
+          published_order story (ops_waiting waiting)
+              (subst (λ (b : List Batch). AreBatches point.seq (story.limbo ++ (ops_of b ++ ops_waiting waiting))) none h.order.1),
+        );
       }
 
   -- ---- calls that failed

@@ -10,7 +10,7 @@ use Rattle.keel_disk.specs.Told.{Told}
 use Rattle.keel_disk.specs.Sound.{IsAtRest}
 use Rattle.keel_machine.specs.Admission.{ops_of, batches_of_group}
 use Rattle.keel_machine.specs.States.{State, Mode, Unopened, Closed, Open, Story, OwnLog, Group, Ticketed, Act, MakeLog, SyncDirectory, AddRecords, SyncLog, point_of}
-use Rattle.keel_machine.specs.Turns.{Event, Opening, Admitting, Writing, TakingOutcome, Getting, Finishing, Turn}
+use Rattle.keel_machine.specs.Turns.{Event, Opening, Admitting, Finishing, Turn}
 use Rattle.keel_recovery.specs.Batches.{AreBatches}
 use Rattle.keel_recovery.specs.Covering.{Stage, NoLog, Created, Ready, Stopped, Trail, Covered}
 use Rattle.keel_recovery.specs.Standing.{Stands}

@@ -2,6 +2,7 @@
 ghost use Rattle.keel_recovery.specs.Laws.{CoveringStands, CrashLeavesPrefix, FirstOpening, OneReading, OpeningCovers, OpeningFindsPrefix, OpeningFindsPublished, ReadingLeavesPrefix};
 ghost use Rattle.keel_recovery.specs.Laws.{AppendCovers, CreateCovers, PublishCovers, SyncCovers, SyncDirCovers};
 ghost use Rattle.keel_recovery.specs.Laws.{InsideAppend, InsideCreate, InsideSync, InsideSyncDir};
+ghost use Rattle.keel_recovery.specs.Machine.{CoveredStands, StartsCovered, TurnKeeps};
 ghost use Rattle.keel_recovery.specs.Worked.{FirstBatch, TwoPuts};
 
 /// A device that an open store covers stands for its story.
@@ -87,6 +88,21 @@ pub fn inside_append()
 /// A crash inside a sync.
 pub fn inside_sync()
     ensures { InsideSync }
+{}
+
+/// Before an opening, the machine's device is covered where it is at rest.
+pub fn starts_covered()
+    ensures { StartsCovered }
+{}
+
+/// Each turn that a caller may ask for keeps the machine's device covered, whatever the answer.
+pub fn turn_keeps()
+    ensures { TurnKeeps }
+{}
+
+/// The device of an open machine that keeps it covered stands for the machine's story.
+pub fn covered_stands()
+    ensures { CoveredStands }
 {}
 
 /// What a crash may leave of two puts, of which the first was synced.

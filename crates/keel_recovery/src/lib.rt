@@ -8,6 +8,10 @@
 //! (`inside_create` to `inside_sync`), leaves a device that stands for a prefix of the story
 //! (`crash_leaves_prefix`, `reading_leaves_prefix`). `opening_finds_prefix` draws the conclusion for the next opening.
 //!
+//! Of the machine as a whole it says that every turn that a caller may ask for keeps its device covered (`turn_keeps`),
+//! from a device at rest on (`starts_covered`), so that the device of an open store always stands for its story
+//! (`covered_stands`).
+//!
 //! It stands on the device's model (`keel_disk`), the log format (`keel_frag`), batches (`keel_batch`), the reading of a
 //! directory (`keel_reading`) and the machine's stories (`keel_machine`). There is nothing here to run.
 #![tactic(auto)]
