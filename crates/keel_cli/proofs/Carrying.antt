@@ -10,7 +10,8 @@ use Rattle.keel_cli.specs.declared.command.Command.TheVariants.{Open, Put, Get}
 use Rattle.keel_cli.specs.declared.reply.Reply.{Reply}
 use Rattle.keel_cli.specs.declared.reply.Reply.TheVariants as reply
 use Rattle.keel_cli.specs.Ends.{CutShort}
-use Rattle.keel_cli.specs.Places.{AreTold, CoreLeads, IsShut, is_open}
+use Rattle.keel_cli.specs.Places.{AreTold, CoreLeads, IsShut}
+use Rattle.keel_recovery.specs.Machine.{is_open}
 use Rattle.keel_cli.specs.Puts.{put_batch, PutRun, PutCut}
 use Rattle.keel_cli.specs.Runs.{Carries, CarriesWhere, Partly, PartlyWhere, reading_replies, unopened}
 use Rattle.keel_cli.proofs.Tickets.{state_at, stands_at, told_in}

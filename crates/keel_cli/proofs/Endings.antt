@@ -10,6 +10,12 @@ use Rattle.keel_cli.specs.declared.top.End.{End}
 use Rattle.keel_cli.specs.declared.top.End.TheVariants.{Completed, Usage, NotACommand, LongInput, ReadFault, WriteFault, OutOfMemory}
 use Rattle.keel_cli.specs.Ends.{Outside, Ends, Breaks, StopsAt, LinesEnd, IsUnwrittenAt, StaysOrRunsOut, start_of, end_at, end_of, longest_input, status_of}
 use Rattle.keel_cli.specs.Grammar.{lines_of}
+use Rattle.keel_cli.specs.Standing.{Recovers}
+use Rattle.keel_cli.proofs.Recovering.{recovers_at_end, recovers_stopped}
+
+recovers_at_stop : (stop : LineStop) (before : Outside) (line : ℕ) (last : State) (input : List ℕ) (holds : Option (List ℕ))
+    → StopsAt stop (start_of before) before.held (lines_of input) line last holds → Recovers before.device last
+recovers_at_stop stop before line last input holds stops = recovers_stopped stop before.device last before.held holds (lines_of input) line stops
 
 Ends-from_stop : (stop : LineStop) (line : ℕ) (before after : Outside) (input : List ℕ) (last : State)
     → TakesAll before.left after.left longest_input input
@@ -18,11 +24,11 @@ Ends-from_stop : (stop : LineStop) (line : ℕ) (before after : Outside) (input 
     → (stop ≡ Unwritten → Rose before.write_faults after.write_faults)
     → Ends (end_at stop line) before after
 Ends-from_stop Refused line before after input last taken stops back rose =
-    record { input = input; taken = taken; last = last; stops = stops; handed_back = back }
+    record { input = input; taken = taken; last = last; stops = stops; handed_back = back; recovers = recovers_at_stop Refused before line last input after.held stops }
 Ends-from_stop Unwritten line before after input last taken stops back rose =
-    (rose refl, (line, record { input = input; taken = taken; last = last; stops = stops; handed_back = back }))
+    (rose refl, (line, record { input = input; taken = taken; last = last; stops = stops; handed_back = back; recovers = recovers_at_stop Unwritten before line last input after.held stops }))
 Ends-from_stop NoMemory line before after input last taken stops back rose =
-    inr (line, record { input = input; taken = taken; last = last; stops = stops; handed_back = back })
+    inr (line, record { input = input; taken = taken; last = last; stops = stops; handed_back = back; recovers = recovers_at_stop NoMemory before line last input after.held stops })
 
 pub Ends-from_lines : (stop : Option StopPlace) (before after : Outside) (input : List ℕ) (last : State)
     → TakesAll before.left after.left longest_input input
@@ -31,7 +37,14 @@ pub Ends-from_lines : (stop : Option StopPlace) (before after : Outside) (input 
     → (IsUnwrittenAt stop → Rose before.write_faults after.write_faults)
     → Ends (end_of stop) before after
 Ends-from_lines None before after input last taken ends back rose =
-    record { input = input; taken = taken; last = last; progress = ends; handed_back = back }
+    record {
+      input = input;
+      taken = taken;
+      last = last;
+      progress = ends;
+      handed_back = back;
+      recovers = recovers_at_end before.device last before.held after.held (lines_of input) ends;
+    }
 Ends-from_lines (Some at) before after input last taken ends back rose =
     Ends-from_stop at.stop at.line before after input last taken ends back
     (λ same. rose (at.line, ap (λ (stop : LineStop). Some (record { stop = stop; line = at.line })) same))
@@ -54,6 +67,7 @@ runs_out line before after breaks = record {
     stops = (inl breaks.stops.stops.1, breaks.stops.stops.2);
   };
   handed_back = breaks.handed_back;
+  recovers = breaks.recovers;
 }
 
 pub Ends-told : (end told : End) (before after : Outside) → Ends end before after → StaysOrRunsOut end told → Ends told before after

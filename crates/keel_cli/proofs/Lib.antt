@@ -6,3 +6,6 @@ pub mod Tickets
 pub mod Shutting
 pub mod PutTurns
 pub mod Carrying
+pub mod Modes
+pub mod Keeping
+pub mod Recovering

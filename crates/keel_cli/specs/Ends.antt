@@ -15,6 +15,7 @@ use Rattle.keel_cli.specs.declared.lines.LineStop.TheVariants.{Refused, Unwritte
 use Rattle.keel_cli.specs.Grammar.{Says, IsNoCommand, lines_of}
 use Rattle.keel_cli.specs.Replies.{text}
 use Rattle.keel_cli.specs.Runs.{Carries, Partly, Progress, unopened}
+use Rattle.keel_cli.specs.Standing.{Recovers}
 
 -- what is told of the outside, and how often each part of it has failed
 pub record Outside : Type 0 where
@@ -106,6 +107,7 @@ pub record Completes (before after : Outside) : Type 0 where
   pub last : State
   pub progress : Progress (start_of before) before.held (lines_of input) last after.held
   pub handed_back : after.device ≡ last.device
+  pub recovers : Recovers before.device last
 
 -- the input was read to its end, and the run stopped at this line
 pub record Breaks (stop : LineStop) (number : ℕ) (before after : Outside) : Type 0 where
@@ -114,6 +116,7 @@ pub record Breaks (stop : LineStop) (number : ℕ) (before after : Outside) : Ty
   pub last : State
   pub stops : StopsAt stop (start_of before) before.held (lines_of input) number last after.held
   pub handed_back : after.device ≡ last.device
+  pub recovers : Recovers before.device last
 
 -- nothing was carried out or written
 pub record Untouched (before after : Outside) : Type 0 where

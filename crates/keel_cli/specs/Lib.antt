@@ -4,4 +4,5 @@ pub mod Places
 pub mod Puts
 pub mod Replies
 pub mod Runs
+pub mod Standing
 pub mod Words

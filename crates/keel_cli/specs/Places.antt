@@ -4,21 +4,17 @@ use Rattle.std.specs.List.{AllByRecursion}
 use Rattle.keel_base.specs.declared.failure.Fault.{Fault}
 use Rattle.keel_disk.specs.Told.{Told}
 use Rattle.keel_machine.specs.Outside.{seen}
-use Rattle.keel_machine.specs.States.{State, Seen, Mode, Unopened, Closed, Open}
+use Rattle.keel_machine.specs.States.{State, Seen}
 use Rattle.keel_machine.specs.declared.answers.Outcome.{Outcome}
 use Rattle.keel_machine.specs.declared.answers.Outcome.TheVariants as outcome
 use Rattle.keel_core.specs.Views.{CoreView, StandsFor}
+use Rattle.keel_recovery.specs.Machine.{is_open}
 use Rattle.keel_cli.specs.declared.place.Place.{Place}
 use Rattle.keel_cli.specs.declared.place.Place.TheVariants as place
 
 -- what a device shows, by the ways to see each part of it
 abbrev pub shown_by : {V : Type 0} → (V → Option Told) → (V → ℕ) → (V → ℕ) → (V → Option Fault) → V → Seen
 shown_by told changes faults last_fault device = seen (told device) (changes device) (faults device) (last_fault device)
-
-abbrev pub is_open : Mode → Bool
-is_open Unopened = false
-is_open Closed = false
-is_open Open = true
 
 -- no store is open, and the device shows this
 pub record IsShut (shows : Seen) (s : State) : Type 0 where

@@ -15,7 +15,7 @@ use Rattle.keel_cli.specs.declared.command.Command.TheVariants.{Open, Put, Get}
 use Rattle.keel_cli.specs.declared.reply.Reply.{Reply}
 use Rattle.keel_cli.specs.declared.reply.Reply.TheVariants as reply
 use Rattle.keel_cli.specs.Grammar.{AreCommands}
-use Rattle.keel_cli.specs.Places.{is_open}
+use Rattle.keel_recovery.specs.Machine.{is_open}
 use Rattle.keel_cli.specs.Puts.{put_batch, PutRun, PutCut}
 use Rattle.keel_cli.specs.Replies.{text}
 
