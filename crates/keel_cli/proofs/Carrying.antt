@@ -1,9 +1,9 @@
 -- Commands over an open store, and over none.
-use Rattle.std.proofs.Common.{◌≡◌, ◌⊎◌, ℕ, Bool, true, false, Option, Some, List, [], ◌∷◌, Result, Ok, Err, IfOk, OnErr, refl, sym, ap, subst, inl, inr}
+use Rattle.std.proofs.Common.{◌≡◌, ◌⊎◌, ℕ, Bool, true, false, Some, List, [], ◌∷◌, Result, Ok, Err, IfOk, OnErr, refl, sym, ap, subst, inl, inr}
 use Rattle.keel_machine.specs.declared.answers.Got.{Got}
 use Rattle.keel_machine.specs.declared.answers.Got.TheVariants as got
 use Rattle.keel_machine.specs.States.{State, Seen}
-use Rattle.keel_machine.specs.Turns.{Answers, Turn, Getting, Opening, after}
+use Rattle.keel_machine.specs.Turns.{Answers, Getting, Opening, after}
 use Rattle.keel_core.specs.Views.{CoreView, StandsFor, Turns}
 use Rattle.keel_cli.specs.declared.command.Command.{Command}
 use Rattle.keel_cli.specs.declared.command.Command.TheVariants.{Open, Put, Get}

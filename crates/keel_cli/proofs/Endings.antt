@@ -1,5 +1,5 @@
 -- From the end of the lines to the end of the run.
-use Rattle.std.proofs.Common.{◌≡◌, ◌↔◌, ◌⊎◌, ℕ, Option, None, Some, List, ap, refl, inl, inr, arith}
+use Rattle.std.proofs.Common.{◌≡◌, ◌↔◌, ℕ, Option, None, Some, List, ap, refl, inl, inr, arith}
 use Rattle.keel_base.specs.Counts.{Rose}
 use Rattle.keel_base.specs.Streams.{TakesAll}
 use Rattle.keel_machine.specs.States.{State}

@@ -1,5 +1,5 @@
 -- How the lines of a text are taken off one by one.
-use Rattle.std.proofs.Common.{◌≡◌, ◌<◌, ◌≤◌, ◌+◌, ℕ, suc, Bool, true, false, List, [], ◌∷◌, length, take, drop, ap, refl, sym, ◌∙◌, arith, ◌==◌, if◌then◌else◌}
+use Rattle.std.proofs.Common.{◌≡◌, ◌<◌, ◌≤◌, ℕ, suc, true, false, List, [], ◌∷◌, length, take, drop, ap, refl, arith, ◌==◌, if◌then◌else◌}
 use Rattle.keel_cli.specs.Grammar.{lines_of, length_before, onto_first}
 
 pub length_before-le : (bytes : List ℕ) → length_before 10 bytes ≤ length bytes

@@ -2,7 +2,6 @@
 use Rattle.std.proofs.Common.{◌≡◌, ℕ, Option, None, Some, List, [], ◌∷◌, ◌++◌, ap, refl, sym, ◌∙◌, append_assoc, append-nil, inr}
 use Rattle.std.proofs.KnownBytes.{Appends-trans}
 use Rattle.std.specs.Io.KnownBytes.{Appends}
-use Rattle.std.specs.List.{flat_map}
 use Rattle.keel_machine.specs.States.{State}
 use Rattle.keel_cli.specs.declared.command.Command.{Command}
 use Rattle.keel_cli.specs.declared.reply.Reply.{Reply}
@@ -11,7 +10,7 @@ use Rattle.keel_cli.specs.declared.lines.LineStop.TheVariants.{Refused, Unwritte
 use Rattle.keel_cli.specs.Ends.{CommandEnds, LineEnds}
 use Rattle.keel_cli.specs.Grammar.{AreCommands, IsLineOf}
 use Rattle.keel_cli.specs.Replies.{text, full_line}
-use Rattle.keel_cli.specs.Runs.{Carries, Run, Progress}
+use Rattle.keel_cli.specs.Runs.{Run, Progress}
 
 pub text-append : (first second : List Reply) → text (first ++ second) ≡ text first ++ text second
 text-append [] second = refl

@@ -1,5 +1,5 @@
 -- The calls of a put, from one core to the next.
-use Rattle.std.proofs.Common.{◌≡◌, ◌+◌, ℕ, ◌==◌, not, Bool, true, false, List, [], ◌∷◌, Option, Some, None, option_map, refl, sym, ap, ◌∙◌, subst, inl, inr}
+use Rattle.std.proofs.Common.{◌≡◌, ℕ, ◌==◌, not, Bool, true, false, List, [], ◌∷◌, Option, Some, None, option_map, refl, sym, subst, inl, inr}
 use Rattle.keel_base.specs.declared.failure.Counter.{Counter}
 use Rattle.keel_base.specs.declared.failure.Counter.TheVariants.{JobNumber, FileNumber}
 use Rattle.keel_base.specs.declared.failure.Failure.{Failure}
@@ -10,17 +10,17 @@ use Rattle.keel_machine.specs.declared.answers.Outcome.{Outcome}
 use Rattle.keel_machine.specs.declared.answers.Outcome.TheVariants as outcome
 use Rattle.keel_machine.specs.declared.steps.WriteStep.{WriteStep}
 use Rattle.keel_machine.specs.declared.steps.WriteStep.TheVariants as step
-use Rattle.keel_machine.specs.Admission.{admit_after, standing, outcome_of, queued}
+use Rattle.keel_machine.specs.Admission.{admit_after, standing, queued}
 use Rattle.keel_machine.specs.States.{State, Group}
 use Rattle.keel_machine.specs.Tests.{first_some, when}
 use Rattle.keel_machine.specs.Turns.{after, Admitting, Writing, TakingOutcome}
-use Rattle.keel_machine.specs.Writing.{write_rest, rest_in_group}
+use Rattle.keel_machine.specs.Writing.{rest_in_group}
 use Rattle.keel_core.specs.Views.{CoreView, StandsFor, Turns}
 use Rattle.keel_cli.specs.declared.reply.Reply.{Reply}
 use Rattle.keel_cli.specs.declared.reply.Reply.TheVariants as reply
 use Rattle.keel_cli.specs.Places.{AreTold, CoreLeads}
 use Rattle.keel_cli.specs.Puts.{Queues, PutRun, PutCut, refusal_replies, outcome_replies}
-use Rattle.keel_cli.proofs.Tickets.{KnownIn, Fine, state_at, stands_at, told_in, told_filter, fine_in, queued_fine, write_fine, Known, told_known, waits_known}
+use Rattle.keel_cli.proofs.Tickets.{KnownIn, state_at, stands_at, told_in, told_filter, fine_in, queued_fine, write_fine, Known, told_known, waits_known}
 
 -- the calls so far: the batch was queued, and write steps were made while it waited
 abbrev pub Gone : CoreView → Batch → ℕ → CoreView → Type 0

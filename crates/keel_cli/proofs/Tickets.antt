@@ -1,23 +1,21 @@
 -- What becomes of a ticket in the turns of the machine.
-use Rattle.std.proofs.Common.{◌≡◌, ◌≢◌, ◌⊎◌, ℕ, ◌+◌, ◌==◌, ◌||◌, Bool, true, false, not, cond, List, [], ◌∷◌, ◌++◌, map, find, filter, length, Option, Some, None, IsSome, IfSome, option_map, option_to_list, unwrap_or, if◌then◌else◌, refl, sym, ap, ◌∙◌, subst, inl, inr, arith, append-nil, eq-eqb}
+use Rattle.std.proofs.Common.{◌≡◌, ◌≢◌, ◌⊎◌, ℕ, ◌+◌, ◌==◌, ◌||◌, Bool, true, false, cond, List, [], ◌∷◌, ◌++◌, map, find, filter, length, Option, Some, None, IsSome, IfSome, option_map, option_to_list, unwrap_or, if◌then◌else◌, refl, sym, ◌∙◌, subst, inl, inr, arith, append-nil, eq-eqb}
 use Rattle.std.proofs.lemmas.List.{map-append}
-use Rattle.std.specs.List.{list_any, AllByRecursion}
+use Rattle.std.specs.List.{list_any}
 use Rattle.std.proofs.lemmas.List.Folds.{list_any-append}
 use Rattle.keel_base.specs.Points.{origin}
 use Rattle.keel_base.specs.declared.failure.Failure.{Failure}
 use Rattle.keel_base.specs.declared.op.Batch.{Batch}
-use Rattle.keel_machine.specs.declared.answers.Admit.TheVariants.{Queued}
 use Rattle.keel_machine.specs.declared.answers.Outcome.{Outcome}
 use Rattle.keel_machine.specs.declared.answers.Outcome.TheVariants as outcome
 use Rattle.keel_machine.specs.declared.steps.WriteStep.{WriteStep}
 use Rattle.keel_machine.specs.declared.steps.WriteStep.TheVariants as step
-use Rattle.keel_machine.specs.Admission.{ops_of, standing_of, tickets_of_group, outcome_kept, is_on_its_way, outcome_of, without_outcome, queued}
+use Rattle.keel_machine.specs.Admission.{ops_of, standing_of, tickets_of_group, outcome_kept, is_on_its_way, outcome_of, queued}
 use Rattle.keel_machine.specs.States.{State, Story, Ticketed, Group, Act, MakeLog, SyncDirectory, AddRecords, SyncLog}
-use Rattle.keel_machine.specs.Turns.{Event, Answers, after, behind}
 use Rattle.keel_machine.specs.Writing.{ready, started_or, group_bytes}
 use Rattle.keel_machine.specs.WritingAfter.{file_drawn, own_log, log_longer, handed_over, goes_on, act_done, act_failed, first_done, first_failed, group_done, group_failed, call_done, call_failed, queue_turned, write_after}
 use Rattle.keel_core.specs.Trails.{TrailShown}
-use Rattle.keel_core.specs.Views.{CoreView, StandsFor, Turns, Fits, state_of}
+use Rattle.keel_core.specs.Views.{CoreView, StandsFor, state_of}
 use Rattle.keel_cli.specs.Places.{IsTold, AreTold}
 
 -- ---- a state that the core stands for

@@ -1,4 +1,4 @@
-use Rattle.std.proofs.Common.{◌≡◌, ◌≤◌, ◌+◌, length}
+use Rattle.std.proofs.Common.{◌≤◌, ◌+◌, length}
 use Rattle.keel_cli.specs.Places.{IsTidy, Leads, shown_by}
 use Rattle.keel_cli.specs.Runs.{unopened}
 use Rattle.keel_cli.proofs.SoFar.{SoFar}

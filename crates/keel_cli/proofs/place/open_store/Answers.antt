@@ -1,6 +1,5 @@
-use Rattle.std.proofs.Common.{refl, Err, inr}
-use Rattle.keel_machine.specs.declared.answers.OpenRefusal.TheVariants.{Device, NoCurrent, OutOfMemory}
-use Rattle.keel_machine.specs.Turns.{Opening}
+use Rattle.std.proofs.Common.{refl}
+use Rattle.keel_machine.specs.declared.answers.OpenRefusal.TheVariants.{Device, NoCurrent}
 use Rattle.keel_machine.specs.States.{Seen}
 use Rattle.keel_core.specs.Views.{point_in}
 use Rattle.keel_cli.specs.Places.{shown_by}
