@@ -4,6 +4,7 @@ use Rattle.std.specs.Fmt.{decimal}
 use Rattle.std.specs.List.{flat_map, AllByRecursion}
 use Rattle.keel_script.specs.Texts.{IsText, printed_text}
 
+-- a word as it stands, a number, or a text of any bytes
 pub data Part : Type 0 where
   Word : List ℕ → Part
   Number : ℕ → Part

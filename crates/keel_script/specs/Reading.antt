@@ -1,4 +1,5 @@
 -- What the readers of words and lines compute: the command that some words say, where they say one.
+-- No public contract cites these: it is proved of them that they give what `Says` says.
 use Rattle.std.specs.Prelude.{◌≡◌, ℕ, ◌+◌, ◌*◌, ◌^◌, Bool, true, false, ◌&&◌, ◌==◌, nat_le, nat_lt, if◌then◌else◌, List, [], ◌∷◌, codes, length, find, Option, Some, None, Result, Ok, Err, option_and_then}
 use Rattle.std.specs.Char.{digit_value}
 use Rattle.std.specs.Fmt.{decimal}
@@ -21,6 +22,7 @@ use Rattle.keel_script.specs.Options.{option_name}
 use Rattle.keel_script.specs.Texts.{is_plain}
 use Rattle.keel_script.specs.Verbs.{verb_name}
 
+-- a step, and the next one where it gave something
 infixl 10 ◌>>=◌
 abbrev pub ◌>>=◌ : {A B : Type 0} → Option A → (A → Option B) → Option B
 o >>= f = option_and_then f o
@@ -59,6 +61,7 @@ unfoldable pub byte_at : List ℕ → Option (ℕ × List ℕ)
 byte_at [] = None
 byte_at (first ∷ rest) = if first == 37 then pair_at rest else plain_at first rest
 
+-- a byte in front of others
 abbrev pub onto : Option (ℕ × List ℕ) → Option (List ℕ) → Option (List ℕ)
 onto first others = do
   byte ← first
@@ -121,6 +124,8 @@ sync_at (word ∷ words) = if bytes_eq word (codes "sync") then (end_at words >>
 -- a command that is one word
 unfoldable pub alone : Command → List (List ℕ) → Option Command
 alone command words = end_at words >>= λ _. Some command
+
+-- the command that is said by a verb and these words, for each verb that is not alone
 
 unfoldable pub set_option_at : List (List ℕ) → Option Command
 set_option_at words = do
@@ -250,5 +255,6 @@ behind verb.Fail words = fail_at words
 behind verb.Capacity words = capacity_at words
 behind verb.Crash words = crash_at words
 
+-- the command that these words say
 unfoldable pub command_from : List (List ℕ) → Option Command
 command_from words = first_by verb_from words >>= λ first. behind first.0 first.1

@@ -18,6 +18,7 @@ told head words = head ++ flat_map (λ word. 32 ∷ word) words
 abbrev pub failure_words : Failure → List (List ℕ)
 failure_words failure = reason_name failure.reason ∷ fault_name failure.fault ∷ []
 
+-- what a reply is printed as
 abbrev pub reply_line : Reply → List ℕ
 reply_line (OptionSet name value) = told (codes "option") (option_name name ∷ decimal value ∷ [])
 reply_line (BadOption name least greatest) = told (codes "bad-option") (option_name name ∷ decimal least ∷ decimal greatest ∷ [])

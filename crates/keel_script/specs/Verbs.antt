@@ -3,6 +3,7 @@ use Rattle.std.specs.Prelude.{ℕ, List, codes}
 use Rattle.keel_script.specs.declared.verb.Verb.{Verb}
 use Rattle.keel_script.specs.declared.verb.Verb.TheVariants.{SetOption, Open, Put, Del, Queue, Write, Flush, Compact, Delete, Resume, ResumeStep, Drain, Tick, Get, Scan, Error, Space, Files, Levels, Limit, Close, Fail, Capacity, Crash}
 
+-- how a line begins that asks for this
 abbrev pub verb_name : Verb → List ℕ
 verb_name SetOption = codes "option"
 verb_name Open = codes "open"

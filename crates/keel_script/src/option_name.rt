@@ -39,6 +39,7 @@ impl Range {
 impl OptionName {
     ghost use Rattle.keel_script.specs.Options.{option_name, range_of, default_of};
 
+    /// All of them, in their order.
     pub const ALL: [OptionName; 14] = [
         OptionName::Paranoid,
         OptionName::Auto,

@@ -23,6 +23,7 @@ pub enum SlotName {
 /// A line of the answer to a command. Lengths and sizes are in bytes, times in ticks of one millisecond.
 #[derive(Drop)]
 pub enum Reply {
+    // Options, and whether the store is open.
     OptionSet {
         name: OptionName,
         value: u64,
@@ -37,6 +38,7 @@ pub enum Reply {
     Opened {
         seq: u64,
     },
+    // Why the store did not open.
     RefusedDevice(Fault),
     RefusedNoCurrent(FileName),
     RefusedBadCurrent(Bytes),
@@ -58,6 +60,7 @@ pub enum Reply {
         expected: u64,
         found: u64,
     },
+    // What became of a write, or of asking for one.
     PutOk {
         seq: u64,
     },
@@ -84,6 +87,7 @@ pub enum Reply {
     Queued {
         ticket: u64,
     },
+    // What a step did, and why it did nothing.
     Idle,
     Moved {
         job: u64,
@@ -113,6 +117,7 @@ pub enum Reply {
         tracked: u128,
         limit: u64,
     },
+    // Deletions.
     Wait {
         until: u64,
     },
@@ -124,6 +129,7 @@ pub enum Reply {
     },
     Removed(FileName),
     DeleteRefused(Fault),
+    // Recovery.
     Nothing,
     Busy {
         job: u64,
@@ -148,11 +154,13 @@ pub enum Reply {
     GivenUp {
         attempts: u32,
     },
+    // Rounds of all actors, and time.
     Quiet,
     More,
     Now {
         tick: u64,
     },
+    // What was read, and why it was not.
     Value(Bytes),
     Absent,
     Row {
@@ -201,12 +209,14 @@ pub enum Reply {
         immutables: u32,
         waiting: u32,
     },
+    // The limit of an open store, and its end.
     Limit {
         limit: u64,
     },
     Closed {
         tickets: u64,
     },
+    // The simulated device.
     Armed,
     NotSimulated,
     Capacity {
