@@ -8,7 +8,6 @@ use Rattle.keel_cli.specs.declared.command.Command.TheVariants.{Open}
 use Rattle.keel_cli.specs.declared.reply.Reply.{Reply}
 use Rattle.keel_cli.specs.Ends.{CutShort}
 use Rattle.keel_cli.specs.Places.{IsShut}
-use Rattle.keel_recovery.specs.Machine.{is_open}
 use Rattle.keel_cli.specs.Runs.{Carries, CarriesWhere, PartlyWhere, opening_replies}
 
 -- the state behind the refusal is as before, but for the device
