@@ -1,7 +1,6 @@
 -- The batches of a log, one record after the other.
-use Rattle.std.proofs.Common.{◌≡◌, ℕ, ◌+◌, ◌<◌, ◌≤◌, List, [], ◌∷◌, ◌++◌, length, map, take, drop, get_or, Result, Ok, Err, refl, sym, ap, subst, ◌∙◌, append_assoc, arith}
+use Rattle.std.proofs.Common.{◌≡◌, ℕ, ◌+◌, ◌<◌, ◌≤◌, List, [], ◌∷◌, ◌++◌, length, take, drop, get_or, Result, Ok, Err, refl, sym, ap, subst, ◌∙◌, append_assoc}
 use Rattle.std.proofs.lemmas.List.{append-nil, map-append, take_all}
-use Rattle.keel_base.specs.declared.op.Op.{Op}
 use Rattle.keel_batch.specs.declared.batch.Numbered as read
 use Rattle.keel_batch.specs.Reading.{batch_of}
 use Rattle.keel_batch.specs.Spelling.{IsBatch}
@@ -9,7 +8,7 @@ use Rattle.keel_frag.specs.declared.record.LogRecord.{LogRecord}
 use Rattle.keel_frag.specs.Reading.{AreRecords}
 use Rattle.keel_reading.specs.declared.numbering.Numbering.{Numbering}
 use Rattle.keel_reading.specs.declared.replay.Replay.{Replay}
-use Rattle.keel_reading.specs.Logs.{Numbered, AreBatches, batches_in, all_read, Says}
+use Rattle.keel_reading.specs.Logs.{Numbered, AreBatches, batches_in, all_read}
 use Rattle.keel_reading.specs.Reading.{BreaksAt}
 use Rattle.keel_reading.specs.Replays.{numbered, all_numbered, Runs, AddsLog}
 use Rattle.keel_reading.proofs.Parts.{one_more, parted}

@@ -1,5 +1,5 @@
 -- The answers of a reading.
-use Rattle.std.proofs.Common.{◌≡◌, ℕ, ◌≤◌, List, Option, Some, None, Result, Ok, Err, sym, subst}
+use Rattle.std.proofs.Common.{ℕ, ◌≤◌, List, Option, Some, None, Result, Ok, Err, sym, subst}
 use Rattle.keel_base.specs.declared.file_name.FileName.TheVariants.{Log}
 use Rattle.keel_base.specs.declared.listing.Entry.{Entry}
 use Rattle.keel_disk.specs.Listings.{IsListing}
@@ -14,8 +14,8 @@ use Rattle.keel_reading.specs.declared.replay.Found.{Found}
 use Rattle.keel_reading.specs.declared.replay.Replay.{Replay}
 use Rattle.keel_reading.specs.Logs.{Numbered, LogsSay}
 use Rattle.keel_reading.specs.Reading.{AreLogsBelow, HasBadLog}
-use Rattle.keel_reading.specs.Replays.{all_numbered, RefusesLog, Finishes, IsAllOf, IsGapWhere}
-use Rattle.keel_reading.specs.Answers.{IsContent, AreLogs, NoLogFrom, IsNextLog, IsBehindALog, IsFoundIn, ReadAnswers}
+use Rattle.keel_reading.specs.Replays.{all_numbered, RefusesLog, Finishes, IsGapWhere}
+use Rattle.keel_reading.specs.Answers.{IsContent, AreLogs, NoLogFrom, IsNextLog, IsBehindALog, ReadAnswers}
 use Rattle.keel_reading.proofs.Standing.{ReadSoFar, below_bound, bad_log, has_gap}
 
 pub log_refused : (told : Option Told) (listing : List Entry) (least : ℕ) (log : ListedLog) (bytes : List ℕ) (batches : List Numbered) (gap : Option Gap) (e : OpenRefusal)

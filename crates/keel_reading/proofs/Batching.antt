@@ -1,11 +1,11 @@
 -- What spells a batch is read as that batch.
-use Rattle.std.proofs.Common.{◌≡◌, ℕ, ◌-◌, List, length, Result, Ok, Err, refl, sym, ap, ◌∙◌}
+use Rattle.std.proofs.Common.{◌≡◌, ℕ, ◌-◌, List, length, Result, Ok, Err, refl, ◌∙◌}
 use Rattle.keel_base.specs.declared.op.Op.{Op}
 use Rattle.keel_batch.specs.declared.batch.Numbered as read
 use Rattle.keel_batch.specs.declared.batch.BatchError.{BatchError}
 use Rattle.keel_batch.specs.declared.batch.BatchError.TheVariants as errors
 use Rattle.keel_batch.specs.Spelling.{IsBatch, spelling}
-use Rattle.keel_batch.specs.Reading.{batch_of, Decodes, Is}
+use Rattle.keel_batch.specs.Reading.{batch_of, Is}
 use Rattle.keel_batch.proofs.Laws.{decoded_only}
 
 again : (seq : ℕ) (ops : List Op) → IsBatch seq ops → (answer : Result (ℕ × List Op) ℕ) → batch_of (spelling seq ops) ≡ answer → batch_of (spelling seq ops) ≡ Ok (seq, ops)

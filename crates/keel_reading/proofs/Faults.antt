@@ -1,7 +1,7 @@
 -- Faults over several calls.
-use Rattle.std.proofs.Common.{◌≡◌, ℕ, ◌≤◌, Option, Some, None, arith}
+use Rattle.std.proofs.Common.{ℕ, ◌≤◌, Option, Some, None, arith}
 use Rattle.std.specs.Prelude.{IfSome}
-use Rattle.keel_base.specs.Counts.{raised, Rose}
+use Rattle.keel_base.specs.Counts.{Rose}
 use Rattle.keel_base.specs.declared.failure.Fault.{Fault}
 use Rattle.keel_disk.specs.Counts.{FaultCounted}
 

@@ -1,10 +1,9 @@
 -- A file that is read in parts.
-use Rattle.std.proofs.Common.{◌≡◌, ℕ, zero, suc, ◌+◌, ◌-◌, ◌<◌, ◌≤◌, List, [], ◌∷◌, ◌++◌, length, take, drop, Option, Some, None, Result, Ok, Err, unwrap_or, option_map, refl, sym, ap, subst, ◌∙◌, append_assoc, arith}
-use Rattle.std.proofs.lemmas.List.{append-nil, drop_at, take-append-drop, length-append, append_cancel_left}
+use Rattle.std.proofs.Common.{◌≡◌, ℕ, zero, suc, ◌<◌, ◌≤◌, List, [], ◌∷◌, ◌++◌, length, take, drop, Option, Some, None, Ok, Err, unwrap_or, option_map, refl, sym, ap, ◌∙◌, append_assoc, arith}
+use Rattle.std.proofs.lemmas.List.{append-nil, drop_at, take-append-drop, length-append}
 use Rattle.keel_base.specs.declared.file_name.FileName.{FileName}
-use Rattle.keel_disk.specs.declared.error.ReadError.{ReadError}
 use Rattle.keel_disk.specs.declared.error.ReadError.TheVariants as read
-use Rattle.keel_disk.specs.State.{file_of, file_at}
+use Rattle.keel_disk.specs.State.{file_at}
 use Rattle.keel_disk.specs.Told.{Told, TellsRead, TellsSize, TellsAbsent, bytes_of}
 use Rattle.keel_reading.specs.Answers.{content, IsContent, IsNextPart, Continues, Begins}
 

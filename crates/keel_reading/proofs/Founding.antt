@@ -1,5 +1,5 @@
 -- What was found is the directory's reading.
-use Rattle.std.proofs.Common.{◌≡◌, ℕ, ◌+◌, List, [], ◌∷◌, length, take, refl, ap, subst, ◌∙◌, arith}
+use Rattle.std.proofs.Common.{◌≡◌, ℕ, ◌+◌, List, [], ◌∷◌, length, take, refl, subst, arith}
 use Rattle.std.proofs.lemmas.List.{take_all}
 use Rattle.keel_base.specs.Points.{Point, origin, after_batch, fold_batches}
 use Rattle.keel_disk.specs.declared.state.Operation.{Operation}

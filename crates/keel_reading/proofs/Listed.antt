@@ -1,5 +1,5 @@
 -- Logs in a listing.
-use Rattle.std.proofs.Common.{◌≡◌, ℕ, ◌+◌, ◌<◌, ◌≤◌, Bool, true, false, ◌⊎◌, inl, inr, List, [], ◌∷◌, ◌++◌, length, take, drop, get_or, Option, Some, None, refl, sym, ap, subst, ◌∙◌, arith, if◌then◌else◌}
+use Rattle.std.proofs.Common.{◌≡◌, ℕ, ◌+◌, ◌<◌, ◌≤◌, true, false, List, [], ◌∷◌, ◌++◌, length, take, drop, get_or, Option, Some, None, refl, sym, ap, subst, ◌∙◌, arith, if◌then◌else◌}
 use Rattle.std.specs.Prelude.{All}
 use Rattle.std.proofs.lemmas.List.Elements.{All-head, All-tail}
 use Rattle.keel_base.specs.declared.file_name.FileName.{FileName}
@@ -9,7 +9,7 @@ use Rattle.keel_base.specs.Name.{name_eq, IsName}
 use Rattle.keel_base.proofs.Names.{name_eq-true, name_eq-same}
 use Rattle.keel_disk.specs.Listings.{size_listed}
 use Rattle.keel_reading.specs.declared.directory.ListedLog.{ListedLog}
-use Rattle.keel_reading.specs.Answers.{IsLog, AreLogs, IsFirstOther, NoLogFrom, IsNextLog, IsNextIn}
+use Rattle.keel_reading.specs.Answers.{IsLog, AreLogs, IsFirstOther, IsNextIn}
 use Rattle.keel_reading.proofs.Parts.{one_more, parted}
 
 -- ---- logs alone

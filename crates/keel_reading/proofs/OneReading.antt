@@ -1,21 +1,20 @@
 -- A directory has one reading.
-use Rattle.std.proofs.Common.{◌≡◌, ℕ, zero, suc, ◌+◌, ◌<◌, ◌≤◌, Bool, true, false, List, [], ◌∷◌, ◌++◌, length, map, Option, Some, None, Result, Ok, Err, unwrap_or, refl, sym, ap, subst, ◌∙◌, arith, if◌then◌else◌}
+use Rattle.std.proofs.Common.{◌≡◌, ℕ, zero, suc, ◌+◌, ◌≤◌, Bool, true, false, List, [], ◌∷◌, ◌++◌, length, Option, None, unwrap_or, refl, sym, ap, subst, ◌∙◌, arith}
 use Rattle.std.proofs.lemmas.List.{append-nil}
 use Rattle.keel_base.specs.declared.file_name.FileName.{FileName}
 use Rattle.keel_base.specs.declared.file_name.FileName.TheVariants.{Log}
-use Rattle.keel_base.specs.declared.op.Op.{Op}
 use Rattle.keel_base.specs.Name.{name_eq}
 use Rattle.keel_base.specs.Points.{Point, origin, fold_batches}
 use Rattle.keel_base.proofs.Names.{name_eq-true}
 use Rattle.keel_disk.specs.Directory.{Named, find}
 use Rattle.keel_frag.specs.declared.record.LogRecord.{LogRecord}
 use Rattle.keel_frag.specs.Pieces.{Progress}
-use Rattle.keel_frag.specs.Reading.{AreRecords, IsReading}
+use Rattle.keel_frag.specs.Reading.{AreRecords}
 use Rattle.keel_frag.proofs.Fronts.{one_reading}
 use Rattle.keel_frag.specs.Writing.{records_bytes, records_at}
 use Rattle.keel_frag.proofs.Continuing.{making}
 use Rattle.keel_reading.specs.Logs.{Numbered, ops_of, batches_in, all_read, Says, log_bytes, LogsSay}
-use Rattle.keel_reading.specs.Reading.{IsLogBelow, AreLogsBelow, ReadsBelow, Reads}
+use Rattle.keel_reading.specs.Reading.{AreLogsBelow, Reads}
 
 -- ---- logs
 

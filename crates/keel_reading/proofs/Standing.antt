@@ -1,5 +1,5 @@
 -- The logs of a directory, one after the other.
-use Rattle.std.proofs.Common.{◌≡◌, ◌⊎◌, inl, inr, ℕ, zero, suc, ◌+◌, ◌-◌, ◌^◌, ◌<◌, ◌≤◌, Bool, true, false, List, [], ◌∷◌, ◌++◌, length, Option, Some, None, Result, Ok, Err, unwrap_or, option_map, refl, sym, ap, subst, ◌∙◌, arith, if◌then◌else◌}
+use Rattle.std.proofs.Common.{◌≡◌, ◌⊎◌, inl, inr, ℕ, zero, suc, ◌+◌, ◌-◌, ◌^◌, ◌<◌, ◌≤◌, true, false, List, [], ◌∷◌, ◌++◌, length, Option, Some, None, Ok, unwrap_or, option_map, refl, sym, ap, subst, ◌∙◌, arith, if◌then◌else◌}
 use Rattle.std.proofs.lemmas.Bool.{cases_lt}
 use Rattle.keel_base.specs.declared.file_name.FileName.{FileName}
 use Rattle.keel_base.specs.declared.file_name.FileName.TheVariants.{Log}
@@ -10,7 +10,7 @@ use Rattle.keel_disk.specs.declared.state.File.{File}
 use Rattle.keel_disk.specs.Directory.{Named, find}
 use Rattle.keel_disk.specs.Listings.{IsListing, size_listed}
 use Rattle.keel_disk.specs.Plain.{bytes_read, image_read}
-use Rattle.keel_disk.specs.State.{State, file_at, directory_read}
+use Rattle.keel_disk.specs.State.{file_at, directory_read}
 use Rattle.keel_disk.specs.Told.{Told, TellsListing, TellsSize, bytes_of}
 use Rattle.keel_reading.specs.declared.directory.ListedLog.{ListedLog}
 use Rattle.keel_reading.specs.declared.numbering.Gap.{Gap}
@@ -103,9 +103,11 @@ below_bound told listing bound tells logs none names =
   where
     log_below : (n size : ℕ) → size_listed (Log n) listing ≡ Some size → n < bound
     log_below n size e = elim (cases_lt n bound) [ inl lt ↦ lt | inr le ↦ absurd (let no = none n le in cc) ]
+
     by_log : (name : FileName) (size : ℕ) → IsLog name → size_listed name listing ≡ Some size → IsLogBelow bound name
     by_log (Log n) size is e = log_below n size e
     by_log _ size is e = is
+
     below : (name : FileName) (size : ℕ) → size_listed name listing ≡ Some size → IsLogBelow bound name
     below name size e = by_log name size (listed_log listing name size logs e) e
 
@@ -182,9 +184,6 @@ gap_found image number last end (Some gap) None batches added say says run h k =
 gap_found image number last end (Some gap) (Some other) batches added say says run h k = subst (λ (g : Gap). IsGapOf image g) (sym (gap_is other gap k)) h
 
 -- ---- the next log
-
-abbrev pub Adds : ℕ → List ℕ → Replay → Replay → Type 0
-Adds log bytes old new = AddsLog log bytes old new
 
 pub log_is_name : (listing : List Entry) (least : ℕ) (log : ListedLog) → IsListing listing → IsNextLog listing least log → IsName (Log log.number)
 log_is_name listing least log order next = listed_name listing (Log log.number) log.size order.are_names next.listed

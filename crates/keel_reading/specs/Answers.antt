@@ -8,13 +8,13 @@ use Rattle.keel_base.specs.Name.{IsName}
 use Rattle.keel_disk.specs.Directory.{Named, find}
 use Rattle.keel_disk.specs.Listings.{IsListing, size_listed}
 use Rattle.keel_disk.specs.Plain.{image_read}
-use Rattle.keel_disk.specs.State.{State, directory_read}
+use Rattle.keel_disk.specs.State.{directory_read}
 use Rattle.keel_disk.specs.Told.{Told, TellsListing, bytes_of}
 use Rattle.keel_reading.specs.declared.refusal.OpenRefusal.{OpenRefusal}
 use Rattle.keel_reading.specs.declared.refusal.OpenRefusal.TheVariants as refusal
 use Rattle.keel_reading.specs.declared.directory.ListedLog.{ListedLog}
 use Rattle.keel_reading.specs.declared.replay.Found.{Found}
-use Rattle.keel_reading.specs.Logs.{Numbered, AreBatches, LogsSay, RunOn, count_ops}
+use Rattle.keel_reading.specs.Logs.{AreBatches, LogsSay, RunOn, count_ops}
 use Rattle.keel_reading.specs.Reading.{AreLogsBelow, HasBadLog, HasGap}
 use Rattle.keel_reading.specs.Replays.{all_numbered}
 

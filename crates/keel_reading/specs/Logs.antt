@@ -1,6 +1,5 @@
 -- What the logs of a directory say.
-use Rattle.std.specs.Prelude.{◌≡◌, ℕ, zero, suc, ◌+◌, ◌<◌, List, [], ◌∷◌, ◌++◌, length, map, unwrap_or, Result, Ok, Err}
-use Rattle.keel_base.specs.declared.file_name.FileName.{FileName}
+use Rattle.std.specs.Prelude.{◌≡◌, ℕ, zero, suc, ◌+◌, List, [], ◌∷◌, ◌++◌, length, map, unwrap_or, Result, Ok}
 use Rattle.keel_base.specs.declared.file_name.FileName.TheVariants.{Log}
 use Rattle.keel_base.specs.declared.op.Op.{Op}
 use Rattle.keel_batch.specs.Reading.{batch_of}

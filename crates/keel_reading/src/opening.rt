@@ -14,7 +14,11 @@ use keel_disk::Disk;
 use std::alloc::Global;
 
 /// Reads the logs of a listing in order of their numbers.
-fn read_listed<D: Disk>(alloc: Global, disk: &mut D, listing: &Listing) -> Result<Found, OpenRefusal>
+fn read_listed<D: Disk>(
+    alloc: Global,
+    disk: &mut D,
+    listing: &Listing,
+) -> Result<Found, OpenRefusal>
     requires tells { TellsListing (D.told disk.old) listing.now }
     requires order { IsListing listing.now }
     requires logs { AreLogs listing.now }

@@ -42,7 +42,12 @@ impl Replay {
     }
 
     /// Adds the batches of a log.
-    pub(crate) fn add_log(&mut self, alloc: Global, log: u64, bytes: &[u8]) -> Result<(), OpenRefusal>
+    pub(crate) fn add_log(
+        &mut self,
+        alloc: Global,
+        log: u64,
+        bytes: &[u8],
+    ) -> Result<(), OpenRefusal>
         ensures ok { OnOk result (AddsLog log bytes.now self.old self.new) }
         ensures refused { IfErr result (RefusesLog log bytes.now) }
     {

@@ -1,7 +1,5 @@
-use Rattle.std.proofs.Common.{◌≡◌, ℕ, ◌≤◌, refl, sym, subst, ◌∙◌, arith}
-use Rattle.keel_base.specs.declared.file_name.FileName.{FileName}
-use Rattle.keel_base.specs.declared.file_name.FileName.TheVariants.{Log}
-use Rattle.std.specs.Prelude.{Option, ◌++◌, [], ◌∷◌}
+use Rattle.std.proofs.Common.{refl, sym, subst, ◌∙◌, arith}
+use Rattle.std.specs.Prelude.{Option}
 use Rattle.keel_reading.specs.declared.directory.ListedLog.{ListedLog}
 use Rattle.keel_reading.specs.Answers.{IsNextIn}
 use Rattle.keel_reading.proofs.Listed.{same_number, kept, not_nearer, first_log, nearer_still}

@@ -1,4 +1,4 @@
-use Rattle.std.proofs.Common.{◌≡◌, refl, sym, subst, [], List, ℕ}
+use Rattle.std.proofs.Common.{refl, sym, subst, List, ℕ}
 use Rattle.keel_reading.specs.Answers.{Begins}
 use Rattle.keel_reading.proofs.Faults.{no_fault}
 use Rattle.keel_reading.proofs.Filing.{nothing_begins}

@@ -1,4 +1,4 @@
-use Rattle.std.proofs.Common.{◌≡◌, ℕ, ◌<◌, length, subst, arith, Ok}
+use Rattle.std.proofs.Common.{◌<◌, length, arith, Ok}
 use Rattle.keel_disk.specs.Told.{TellsRead}
 use Rattle.keel_reading.proofs.Filing.{part_read}
 use Rattle.keel_reading.proofs.file.read_part.Goals as goal

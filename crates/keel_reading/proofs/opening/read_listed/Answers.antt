@@ -1,13 +1,11 @@
-use Rattle.std.proofs.Common.{◌≡◌, ℕ, refl, sym, subst, ◌∙◌, arith, List, [], Option, None, Some}
-use Rattle.keel_base.specs.declared.listing.Entry.{Entry}
+use Rattle.std.proofs.Common.{refl, ◌∙◌, arith, None}
 use Rattle.keel_base.specs.declared.file_name.FileName.TheVariants.{Log}
-use Rattle.keel_disk.specs.Told.{Told, TellsSize}
-use Rattle.keel_reading.specs.Answers.{IsNextLog, IsContent}
+use Rattle.keel_reading.specs.Answers.{IsContent}
 use Rattle.keel_reading.specs.Replays.{all_numbered}
 use Rattle.std.proofs.lemmas.Result.{err_from_is_err_and}
 use Rattle.keel_reading.proofs.Answering.{log_refused, finished}
 use Rattle.keel_reading.proofs.Faults.{no_fault, fault_behind}
-use Rattle.keel_reading.proofs.Standing.{none_counted, none_read, log_is_name, tells_size, next_counted, next_read, Counted, ReadSoFar}
+use Rattle.keel_reading.proofs.Standing.{none_counted, none_read, log_is_name, tells_size, next_counted, next_read}
 use Rattle.keel_reading.proofs.opening.read_listed.Goals as goal
 
 pub logs-init : goal.logs-init

@@ -1,8 +1,8 @@
-use Rattle.std.proofs.Common.{◌≡◌, ℕ, List, Ok, Err, refl, sym, ap, ◌∙◌}
+use Rattle.std.proofs.Common.{◌≡◌, List, Ok, Err, refl, sym, ap, ◌∙◌}
 use Rattle.keel_batch.specs.Reading.{batch_of}
 use Rattle.keel_frag.specs.declared.record.LogRecord.{LogRecord}
 use Rattle.keel_reading.specs.Replays.{all_numbered}
-use Rattle.keel_reading.proofs.Adding.{next_added, all_added, breaks}
+use Rattle.keel_reading.proofs.Adding.{next_added, breaks}
 use Rattle.keel_reading.proofs.replay.Replay.add_log.Goals as goal
 
 pub returns-in-Err-BadBatch-clause-refused : goal.returns-in-Err-BadBatch-clause-refused
@@ -13,7 +13,7 @@ returns-in-Err-BadBatch-clause-refused c =
     let bad : batch_of c.found-item.result.payload ≡ Err exact.0 = ap batch_of (sym c.as_slice.ensures) ∙ exact.1 in (
       refl,
       breaks c.args.log c.args.bytes.now (all_numbered c.args.self.now.batches) (all_numbered c.loop-found.self.batches) c.args.self.now.numbering c.loop-found.self.numbering all
-      c.in_ok-records.records.end c.loop-found.found-index c.found-item.result exact.0 c.loop-found.invariant c.loop-found-test.true c.found-item.is records bad,
+          c.in_ok-records.records.end c.loop-found.found-index c.found-item.result exact.0 c.loop-found.invariant c.loop-found-test.true c.found-item.is records bad,
     )
 
 pub loop-found-preserved : goal.loop-found-preserved
