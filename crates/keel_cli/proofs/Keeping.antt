@@ -59,8 +59,7 @@ and_right false b is = absurd cc
 word_lengths : (word : List ℕ) → IsTrue (is_word word) → (1 ≤ length word) × (length word ≤ 64)
 word_lengths word is =
     let letters = list_all is_letter_or_digit word in
-    let lengths = and_left (nat_lt 0 (length word) && nat_le (length word) 64) letters is in
-    (
+    let lengths = and_left (nat_lt 0 (length word) && nat_le (length word) 64) letters is in (
       leb-true 1 (length word) (and_left (nat_lt 0 (length word)) (nat_le (length word) 64) lengths),
       leb-true (length word) 64 (and_right (nat_lt 0 (length word)) (nat_le (length word) 64) lengths),
     )
