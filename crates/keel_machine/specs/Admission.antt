@@ -1,12 +1,16 @@
 -- Which batches are queued, and which outcomes are kept.
-use Rattle.std.specs.Prelude.{◌≡◌, ℕ, ◌+◌, ◌^◌, ◌==◌, nat_le, nat_lt, not, Bool, List, [], ◌∷◌, ◌++◌, length, map, find, filter, Option, Some, None, if◌then◌else◌, option_map, unwrap_or}
+use Rattle.std.specs.Prelude.{◌≡◌, ℕ, ◌+◌, ◌^◌, ◌==◌, nat_le, nat_lt, not, ◌&&◌, Bool, List, [], ◌∷◌, ◌++◌, length, map, find, filter, Option, Some, None, if◌then◌else◌, option_map, unwrap_or}
 use Rattle.std.specs.List.{list_any}
 use Rattle.keel_base.specs.declared.failure.Failure.{Failure}
 use Rattle.keel_base.specs.declared.failure.Counter.TheVariants.{Sequence, Ticket}
 use Rattle.keel_base.specs.declared.op.Batch.{Batch}
 use Rattle.keel_base.specs.declared.op.Op.{Op}
+use Rattle.keel_base.specs.declared.op.Op.TheVariants.{Put, Del}
+use Rattle.keel_base.specs.Weight.{weight}
 use Rattle.keel_machine.specs.declared.answers.Admit.{Admit}
-use Rattle.keel_machine.specs.declared.answers.Admit.TheVariants.{Queued, Stopped, Spent, QueueFull, OutOfMemory}
+use Rattle.keel_machine.specs.declared.answers.Admit.TheVariants.{Queued, BadSize, Stopped, Spent, QueueFull, OutOfMemory}
+use Rattle.keel_machine.specs.declared.answers.Part.TheVariants.{Key, Value}
+use Rattle.keel_machine.specs.declared.answers.Part.TheVariants as part
 use Rattle.keel_machine.specs.declared.answers.Outcome.{Outcome}
 use Rattle.keel_machine.specs.declared.answers.Outcome.TheVariants as outcome
 use Rattle.keel_machine.specs.States.{State, Group, point_of}
@@ -53,10 +57,43 @@ seq_with s batch = last_seq s + ops_on_their_way s + length batch.ops
 abbrev pub most_waiting : ℕ
 most_waiting = 1
 
+-- ---- sizes
+
+abbrev pub is_key_length : ℕ → Bool
+is_key_length length = nat_le 1 length && nat_le length 1024
+
+-- a length of an op that isn't within its limits, its key's first
+abbrev pub op_refusal : Op → Option Admit
+op_refusal (Put key value) = first_some (
+    when (not (is_key_length (length key))) (BadSize Key (length key))
+    ∷ when (nat_lt 65536 (length value)) (BadSize Value (length value))
+    ∷ [])
+op_refusal (Del key) = when (not (is_key_length (length key))) (BadSize Key (length key))
+
+-- that of the first op that has one
+abbrev pub ops_refusal : List Op → Option Admit
+ops_refusal [] = None
+ops_refusal (op ∷ ops) = first_some (op_refusal op ∷ ops_refusal ops ∷ [])
+
+abbrev pub weight_of : List Op → ℕ
+weight_of [] = 0
+weight_of (op ∷ ops) = weight op + weight_of ops
+
+-- the ops in order, then their count, then their weight
+abbrev pub size_refusal : Batch → Option Admit
+size_refusal batch = first_some (
+    ops_refusal batch.ops
+    ∷ when (not (nat_le 1 (length batch.ops) && nat_le (length batch.ops) 1000)) (BadSize part.Batch (length batch.ops))
+    ∷ when (nat_lt 1048576 (weight_of batch.ops)) (BadSize part.Batch (weight_of batch.ops))
+    ∷ [])
+
+-- ---- admission
+
 -- the refusals, in the order of their tests
 abbrev pub refusal : State → Batch → Option Admit
 refusal s batch = first_some (
-    option_map Stopped (standing s)
+    size_refusal batch
+    ∷ option_map Stopped (standing s)
     ∷ when (nat_lt (2 ^ 56) (seq_with s batch)) (Spent Sequence)
     ∷ when (nat_le (2 ^ 56) s.writing.last_ticket) (Spent Ticket)
     ∷ when (nat_le most_waiting (length s.writing.waiting)) (QueueFull (length s.writing.waiting))

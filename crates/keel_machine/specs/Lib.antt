@@ -5,6 +5,7 @@ pub mod Admission
 pub mod Writing
 pub mod WritingAfter
 pub mod Opening
+pub mod Crash
 pub mod Reads
 pub mod Turns
 pub mod Laws

@@ -1,48 +1,60 @@
 -- Opening a store, and handing its device back.
-use Rattle.std.specs.Prelude.{◌≡◌, ℕ, List, [], ◌∷◌, Option, Some, None, Result, Ok, Err}
-use Rattle.keel_base.specs.Points.{origin}
-use Rattle.keel_base.specs.declared.file_name.FileName.{FileName}
-use Rattle.keel_base.specs.declared.listing.Entry.{Entry}
-use Rattle.keel_disk.specs.Listings.{IsListing}
-use Rattle.keel_disk.specs.Told.{Told, TellsListing}
-use Rattle.keel_machine.specs.declared.answers.OpenRefusal.{OpenRefusal}
-use Rattle.keel_machine.specs.declared.answers.OpenRefusal.TheVariants as refusal
+use Rattle.std.specs.Prelude.{◌≡◌, Bool, true, false, [], None, Result, Ok, Err}
+use Rattle.keel_base.specs.Points.{Point, origin, fold_batches}
+use Rattle.keel_reading.specs.declared.refusal.OpenRefusal.{OpenRefusal}
+use Rattle.keel_reading.specs.declared.replay.Found.{Found}
+use Rattle.keel_reading.specs.Answers.{fault_in, NamesOther, ReadAnswers, RunsOn}
+use Rattle.keel_reading.specs.Logs.{ops_of}
+use Rattle.keel_reading.specs.Replays.{all_numbered}
 use Rattle.keel_machine.specs.Outside.{IsQuiet}
-use Rattle.keel_machine.specs.States.{State, Seen, Open, Closed}
+use Rattle.keel_machine.specs.States.{State, Seen, Story, Footing, Known, Mode, Open, Closed, new_story, point_of}
 
--- this is the listing of the directory, in its order
-pub record Lists (told : Option Told) (listing : List Entry) : Type 0 where
-  pub tells : TellsListing told listing
-  pub order : IsListing listing
+-- the point that the batches found lead to
+abbrev pub point_found : Found → Point
+point_found found = fold_batches origin (ops_of (all_numbered found.batches))
 
--- the directory's first file
-pub record IsFirstFile (told : Option Told) (file : FileName) : Type 0 where
-  pub size : ℕ
-  pub others : List Entry
-  pub listed : Lists told (record { name = file; size = size } ∷ others)
+-- whether an opening goes on with a story, or begins one
+abbrev pub continues : Mode → Footing → Bool
+continues Closed Known = true
+continues mode footing = false
 
--- The sequence that an opening finds, or why there is none, each with its cause. It makes no changing call.
-abbrev pub OpenAnswers : State → Result ℕ OpenRefusal → Seen → Type 0
-OpenAnswers s (Ok seq) device = (seq ≡ 0) × Lists s.device.told [] × IsQuiet s.device None device
-OpenAnswers s (Err (refusal.Device fault)) device = IsQuiet s.device (Some fault) device
-OpenAnswers s (Err (refusal.NoCurrent file)) device = IsFirstFile s.device.told file × IsQuiet s.device None device
-OpenAnswers s (Err refusal.OutOfMemory) device = IsQuiet s.device None device
+-- a story goes on only with the point that it leads to
+abbrev pub GoesOnWith : Bool → Story → Found → Type 0
+GoesOnWith true story found = point_found found ≡ point_of story
+GoesOnWith false story found = Unit {0}
 
--- a new store is open
-abbrev pub opened : State → State
-opened s = record {
+-- what an opening finds is numbered on, and is what its story says
+abbrev pub Finds : State → Result Found OpenRefusal → Type 0
+Finds s (Ok found) = RunsOn found × GoesOnWith (continues s.mode s.footing) s.story found
+Finds s (Err refused) = Unit {0}
+
+-- What an opening finds, or why there is nothing to find, each with its cause. It makes no changing call.
+pub record OpenAnswers (s : State) (answer : Result Found OpenRefusal) (device : Seen) : Type 0 where
+  pub cause : ReadAnswers s.device.told answer
+  pub other : NamesOther s.device.told answer
+  pub finds : Finds s answer
+  pub quiet : IsQuiet s.device (fault_in answer) device
+
+abbrev pub story_opened : Bool → Found → Story → Story
+story_opened true found story = story
+story_opened false found story = new_story (point_found found)
+
+-- a store is open, and nothing was written yet
+abbrev pub opened : Found → State → State
+opened found s = record {
   device = s.device;
+  footing = s.footing;
   mode = Open;
-  story = record { start = origin; log = []; limbo = []; floor = 0 };
+  story = story_opened (continues s.mode s.footing) found s.story;
   log = None;
   writing = record { waiting = []; outcomes = []; last_ticket = 0 };
   failing = record { failures = [] };
   jobs = record { write = record { number = 0; running = None } };
-  numbers = record { next_file = 1 };
+  numbers = record { next_file = found.next_file };
 }
 
-abbrev pub open_after : State → Result ℕ OpenRefusal → State
-open_after s (Ok seq) = opened s
+abbrev pub open_after : State → Result Found OpenRefusal → State
+open_after s (Ok found) = opened found s
 open_after s (Err refused) = s
 
 -- the device is handed back

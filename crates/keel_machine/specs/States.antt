@@ -1,5 +1,5 @@
 -- The machine's states: plain data, one record for each part.
-use Rattle.std.specs.Prelude.{ℕ, List, Option}
+use Rattle.std.specs.Prelude.{ℕ, Bool, List, [], ◌++◌, take, Option}
 use Rattle.keel_base.specs.Points.{Point, fold_batches}
 use Rattle.keel_base.specs.declared.failure.Fault.{Fault}
 use Rattle.keel_base.specs.declared.failure.Failure.{Failure}
@@ -8,14 +8,21 @@ use Rattle.keel_base.specs.declared.op.Op.{Op}
 use Rattle.keel_disk.specs.Told.{Told}
 use Rattle.keel_machine.specs.declared.answers.Outcome.{Outcome}
 
--- what a device shows
+-- what a device shows, and whether failures and crashes can be arranged on it
 pub record Seen : Type 0 where
   pub told : Option Told
   pub changes : ℕ
   pub faults : ℕ
   pub last_fault : Option Fault
+  pub simulated : Bool
 
--- no store was opened yet in this run, none is open, or one is
+-- Whether the device is known to bear out the story: it tells its state, was at rest when the run began, and no crash
+-- left a forged image since.
+pub data Footing : Type 0 where
+  Known : Footing
+  Unknown : Footing
+
+-- No store was opened yet, or a crash left nothing to build on; a crash left the story's device; or a store is open.
 pub data Mode : Type 0 where
   Unopened : Mode
   Closed : Mode
@@ -28,6 +35,14 @@ pub record Story : Type 0 where
   pub log : List (List Op)
   pub limbo : List (List Op)
   pub floor : ℕ
+
+-- the story that begins with a point
+abbrev pub new_story : Point → Story
+new_story start = record { start = start; log = []; limbo = []; floor = 0 }
+
+-- the story behind a crash that kept so many batches
+abbrev pub cut_story : ℕ → Story → Story
+cut_story count story = record { start = story.start; log = take count (story.log ++ story.limbo); limbo = []; floor = count }
 
 -- the point that the published batches lead to
 abbrev pub point_of : Story → Point
@@ -82,6 +97,7 @@ pub record Numbers : Type 0 where
 
 pub record State : Type 0 where
   pub device : Seen
+  pub footing : Footing
   pub mode : Mode
   pub story : Story
   pub log : Option OwnLog

@@ -1,12 +1,19 @@
 -- The turns of the machine: from a state, a call may be answered so and leave that state.
-use Rattle.std.specs.Prelude.{◌≡◌, ℕ, List, [], ◌∷◌, None, Option, Result}
+use Rattle.std.specs.Prelude.{◌≡◌, ℕ, List, [], ◌∷◌, None, Option, Result, IfOk}
 use Rattle.keel_base.specs.declared.op.Batch.{Batch}
+use Rattle.keel_base.specs.declared.listing.Entry.{Entry}
+use Rattle.keel_disk.specs.declared.error.DiskError.{DiskError}
+use Rattle.keel_disk.specs.Counts.{disk_fault}
+use Rattle.keel_disk.specs.Listings.{IsListing}
+use Rattle.keel_disk.specs.Told.{TellsListing}
+use Rattle.keel_reading.specs.declared.refusal.OpenRefusal.{OpenRefusal}
+use Rattle.keel_reading.specs.declared.replay.Found.{Found}
 use Rattle.keel_machine.specs.declared.answers.Admit.{Admit}
 use Rattle.keel_machine.specs.declared.answers.Got.{Got}
-use Rattle.keel_machine.specs.declared.answers.OpenRefusal.{OpenRefusal}
 use Rattle.keel_machine.specs.declared.answers.Outcome.{Outcome}
 use Rattle.keel_machine.specs.declared.steps.WriteStep.{WriteStep}
 use Rattle.keel_machine.specs.Admission.{AdmitAnswers, admit_after, outcome_of, without_outcome}
+use Rattle.keel_machine.specs.Crash.{CrashAnswers, crash_after}
 use Rattle.keel_machine.specs.Opening.{OpenAnswers, open_after, finished}
 use Rattle.keel_machine.specs.Outside.{IsQuiet}
 use Rattle.keel_machine.specs.Reads.{GetAnswers}
@@ -15,12 +22,21 @@ use Rattle.keel_machine.specs.WritingAfter.{WriteAnswers, write_after}
 
 -- a call of the machine with its answer
 pub data Event : Type 0 where
-  Opening : Result ℕ OpenRefusal → Event
+  Opening : Result Found OpenRefusal → Event
   Admitting : Batch → Admit → Event
   Writing : Option ℕ → WriteStep → Event
   TakingOutcome : ℕ → Outcome → Event
   Getting : List ℕ → Got → Event
+  Listing : Result (List Entry) DiskError → Event
+  -- what is left of the story, where anything is known of it
+  Crashing : Option ℕ → Event
   Finishing : Event
+
+-- the files of the directory with their sizes, in the order of their printed names
+pub record ListAnswers (s : State) (answer : Result (List Entry) DiskError) (device : Seen) : Type 0 where
+  pub tells : IfOk answer (TellsListing s.device.told)
+  pub order : IfOk answer IsListing
+  pub quiet : IsQuiet s.device (disk_fault answer) device
 
 -- each answer with its exact cause, and what the device then shows
 abbrev pub Answers : State → Event → Seen → Type 0
@@ -29,6 +45,8 @@ Answers s (Admitting batch answer) device = AdmitAnswers s batch answer × (devi
 Answers s (Writing held step) device = WriteAnswers s held step device
 Answers s (TakingOutcome ticket outcome) device = (outcome ≡ outcome_of s ticket) × (device ≡ s.device)
 Answers s (Getting key got) device = GetAnswers s key got × IsQuiet s.device None device
+Answers s (Listing answer) device = ListAnswers s answer device
+Answers s (Crashing kept) device = CrashAnswers s kept device
 Answers s Finishing device = device ≡ s.device
 
 -- the state behind the call, but for the device
@@ -38,6 +56,8 @@ behind s (Admitting batch answer) = admit_after s batch answer
 behind s (Writing held step) = write_after s step
 behind s (TakingOutcome ticket outcome) = without_outcome ticket s
 behind s (Getting key got) = s
+behind s (Listing answer) = s
+behind s (Crashing kept) = crash_after s kept
 behind s Finishing = finished s
 
 -- the state behind the call, with what the device then shows

@@ -7,8 +7,9 @@ use Rattle.keel_machine.specs.declared.answers.Outcome.TheVariants as outcome
 use Rattle.keel_machine.specs.declared.steps.WriteStep.{WriteStep}
 use Rattle.keel_machine.specs.declared.steps.WriteStep.TheVariants.{Idle, Moved, Done}
 use Rattle.keel_machine.specs.Admission.{queued, last_seq, outcome_of}
+use Rattle.keel_reading.specs.declared.replay.Found.{Found}
 use Rattle.keel_machine.specs.Opening.{opened}
-use Rattle.keel_machine.specs.States.{State, Group, Act}
+use Rattle.keel_machine.specs.States.{State, Group, Act, Unopened}
 use Rattle.keel_machine.specs.Writing.{ready, write_rest, call_of}
 use Rattle.keel_machine.specs.WritingAfter.{call_done}
 
@@ -38,6 +39,14 @@ abbrev pub behind_steps : ℕ → State → State
 behind_steps zero s = s
 behind_steps (suc n) s = behind_steps n (write_played s).1
 
+-- what an opening finds in an empty directory
+abbrev pub nothing_found : Found
+nothing_found = record { batches = []; last_seq = 0; next_file = 1 }
+
+-- a store that was opened there, as the first of a run
+abbrev pub new_store : State → State
+new_store s = opened nothing_found (record s { mode = Unopened })
+
 -- the synced put of one byte to one byte
 abbrev pub synced_put : ℕ → ℕ → Batch
 synced_put key value = record { ops = op.Put (key ∷ []) (value ∷ []) ∷ []; sync = true }
@@ -45,12 +54,12 @@ synced_put key value = record { ops = op.Put (key ∷ []) (value ∷ []) ∷ [];
 -- The first put makes its log, makes the name firm, appends and syncs; then it is done, with sequence number 1.
 abbrev pub FirstPut : Type 0
 FirstPut =
-    (s : State) → let s1 : State = queued (synced_put 97 49) (opened s) in
+    (s : State) → let s1 : State = queued (synced_put 97 49) (new_store s) in
     (answers 5 s1 ≡ Moved 1 call.Create ∷ Moved 1 call.SyncDir ∷ Moved 1 call.Append ∷ Done 1 1 1 ∷ Idle ∷ [])
     × (outcome_of (behind_steps 4 s1) 1 ≡ outcome.Done 1)
 
 -- A second put goes to the same log.
 abbrev pub SecondPut : Type 0
 SecondPut =
-    (s : State) → let s1 : State = queued (synced_put 98 50) (behind_steps 4 (queued (synced_put 97 49) (opened s))) in
+    (s : State) → let s1 : State = queued (synced_put 98 50) (behind_steps 4 (queued (synced_put 97 49) (new_store s))) in
     answers 3 s1 ≡ Moved 2 call.Append ∷ Done 2 2 1 ∷ Idle ∷ []

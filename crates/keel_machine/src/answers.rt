@@ -1,11 +1,13 @@
 // The answers of the calls that aren't steps.
-use keel_base::{Bytes, Counter, Failure, Fault, FileName};
+use keel_base::{Bytes, Counter, Failure};
 
 /// Whether a batch is taken in. Only a queued batch changes anything.
 #[derive(Clone, Copy, Debug)]
 pub enum Admit {
     /// Its outcome is kept under this ticket.
     Queued { ticket: u64 },
+    /// This part of the batch has a length, a count or a weight outside the limits.
+    BadSize { part: Part, length: u64 },
     /// This failure stands, and nothing is written any more.
     Stopped(Failure),
     /// This counter would pass its end.
@@ -13,6 +15,17 @@ pub enum Admit {
     /// So many batches wait already.
     QueueFull { waiting: u32 },
     OutOfMemory,
+}
+
+/// What of a batch is outside its limits.
+#[derive(Clone, Copy, Debug)]
+pub enum Part {
+    /// A key's length in bytes isn't 1 to 1024.
+    Key,
+    /// A value has more than 65,536 bytes.
+    Value,
+    /// The batch hasn't 1 to 1000 ops, or its weight is over 1,048,576.
+    Batch,
 }
 
 /// What became of a batch that was queued.
@@ -35,15 +48,5 @@ pub enum Outcome {
 pub enum Got {
     Value(Bytes),
     Absent,
-    OutOfMemory,
-}
-
-/// Why a directory isn't opened.
-#[derive(Clone, Copy, Debug)]
-pub enum OpenRefusal {
-    /// A call of the device failed.
-    Device(Fault),
-    /// There is no CURRENT, and this file shows that the store isn't new.
-    NoCurrent { file: FileName },
     OutOfMemory,
 }

@@ -11,5 +11,5 @@ mod answers;
 pub mod laws;
 mod steps;
 
-pub use answers::{Admit, Got, OpenRefusal, Outcome};
+pub use answers::{Admit, Got, Outcome, Part};
 pub use steps::WriteStep;

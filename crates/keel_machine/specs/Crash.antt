@@ -1,0 +1,59 @@
+-- A crash of the device, and what it leaves of the story.
+use Rattle.std.specs.Prelude.{◌≡◌, ℕ, ◌+◌, ◌≤◌, true, List, length, Option, Some, None, Ok}
+use Rattle.keel_base.specs.Counts.{raised}
+use Rattle.keel_base.specs.declared.memory.OutOfMemory.{OutOfMemory}
+use Rattle.keel_disk.specs.Directory.{Named}
+use Rattle.keel_disk.specs.Image.{restarted}
+use Rattle.keel_disk.specs.Plain.{PlainImage}
+use Rattle.keel_disk.specs.Told.{Told, Crashes, CrashedTo}
+use Rattle.keel_machine.specs.States.{State, Seen, Story, Footing, Known, Unknown, Mode, Unopened, Closed, Open, cut_story}
+
+-- the device is an image of what it was, in which no fragment is good by chance
+pub record LeavesPlain (before after : Told) : Type 0 where
+  pub image : Named (List ℕ)
+  pub plain : PlainImage before.state image
+  pub leaves : after.state ≡ restarted image
+  pub last : after.last ≡ before.last
+  pub forged : after.forged ≡ before.forged
+
+-- it is an image in which one is, and that was counted
+pub record LeavesForged (before after : Told) : Type 0 where
+  pub crashed : CrashedTo before after
+  pub counted : after.forged ≡ raised before.forged
+
+-- so many batches of the story are left, and all that must not be lost
+pub record IsPrefix (count : ℕ) (story : Story) : Type 0 where
+  pub not_lost : story.floor ≤ count
+  pub within : count ≤ length story.log + length story.limbo
+
+-- where a store was opened, a crash leaves a first part of its story
+abbrev pub LeavesOf : Mode → ℕ → Story → Type 0
+LeavesOf Unopened count story = Unit {0}
+LeavesOf Closed count story = IsPrefix count story
+LeavesOf Open count story = IsPrefix count story
+
+-- What a crash leaves. Of a known device: so many batches of the story, unless the image is forged.
+abbrev pub Leaves : Footing → Mode → Story → Option Told → Option ℕ → Option Told → Type 0
+Leaves Known mode story (Some before) (Some count) (Some after) = LeavesOf mode count story × LeavesPlain before after
+Leaves Known mode story (Some before) None (Some after) = LeavesForged before after
+Leaves Unknown mode story before None after = Crashes {E = OutOfMemory} before (Ok true) after
+Leaves _ mode story _ _ _ = ⊥
+
+-- a crash is had on a simulated device alone
+pub record CrashAnswers (s : State) (kept : Option ℕ) (device : Seen) : Type 0 where
+  pub simulated : s.device.simulated ≡ true
+  pub leaves : Leaves s.footing s.mode s.story s.device.told kept device.told
+  pub count : device.changes ≡ s.device.changes
+  pub faults : device.faults ≡ s.device.faults
+  pub last_fault : device.last_fault ≡ s.device.last_fault
+  pub same : device.simulated ≡ s.device.simulated
+
+abbrev pub mode_crashed : Mode → Mode
+mode_crashed Unopened = Unopened
+mode_crashed Closed = Closed
+mode_crashed Open = Closed
+
+-- an open store is dropped, and the story is what is left of it; or nothing is known any more
+abbrev pub crash_after : State → Option ℕ → State
+crash_after s (Some count) = record s { mode = mode_crashed s.mode; story = cut_story count s.story }
+crash_after s None = record s { mode = Unopened; footing = Unknown }
