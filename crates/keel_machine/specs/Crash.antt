@@ -4,9 +4,10 @@ use Rattle.keel_base.specs.Counts.{raised}
 use Rattle.keel_base.specs.declared.memory.OutOfMemory.{OutOfMemory}
 use Rattle.keel_disk.specs.Directory.{Named}
 use Rattle.keel_disk.specs.Image.{restarted}
-use Rattle.keel_disk.specs.Plain.{PlainImage}
+use Rattle.keel_disk.specs.Plain.{PlainImage, image_read}
 use Rattle.keel_disk.specs.Told.{Told, Crashes, CrashedTo}
-use Rattle.keel_machine.specs.States.{State, Seen, Story, Footing, Known, Unknown, Mode, Unopened, Closed, Open, cut_story}
+use Rattle.keel_reading.specs.Reading.{Reads}
+use Rattle.keel_machine.specs.States.{State, Seen, Story, Footing, Known, Unknown, Mode, Unopened, Closed, Open, cut_story, point_of}
 
 -- the device is an image of what it was, in which no fragment is good by chance
 pub record LeavesPlain (before after : Told) : Type 0 where
@@ -21,20 +22,21 @@ pub record LeavesForged (before after : Told) : Type 0 where
   pub crashed : CrashedTo before after
   pub counted : after.forged ≡ raised before.forged
 
--- so many batches of the story are left, and all that must not be lost
-pub record IsPrefix (count : ℕ) (story : Story) : Type 0 where
+-- The directory reads as what so many batches of the story lead to, and none that must not be lost is missing.
+pub record IsPrefix (count : ℕ) (story : Story) (image : Named (List ℕ)) : Type 0 where
   pub not_lost : story.floor ≤ count
   pub within : count ≤ length story.log + length story.limbo
+  pub reads : Reads image (point_of (cut_story count story))
 
 -- where a store was opened, a crash leaves a first part of its story
-abbrev pub LeavesOf : Mode → ℕ → Story → Type 0
-LeavesOf Unopened count story = Unit {0}
-LeavesOf Closed count story = IsPrefix count story
-LeavesOf Open count story = IsPrefix count story
+abbrev pub LeavesOf : Mode → ℕ → Story → Named (List ℕ) → Type 0
+LeavesOf Unopened count story image = Unit {0}
+LeavesOf Closed count story image = IsPrefix count story image
+LeavesOf Open count story image = IsPrefix count story image
 
 -- What a crash leaves. Of a known device: so many batches of the story, unless the image is forged.
 abbrev pub Leaves : Footing → Mode → Story → Option Told → Option ℕ → Option Told → Type 0
-Leaves Known mode story (Some before) (Some count) (Some after) = LeavesOf mode count story × LeavesPlain before after
+Leaves Known mode story (Some before) (Some count) (Some after) = LeavesPlain before after × LeavesOf mode count story (image_read after.state)
 Leaves Known mode story (Some before) None (Some after) = LeavesForged before after
 Leaves Unknown mode story before None after = Crashes {E = OutOfMemory} before (Ok true) after
 Leaves _ mode story _ _ _ = ⊥

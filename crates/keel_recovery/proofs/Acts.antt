@@ -5,22 +5,21 @@ use Rattle.keel_base.specs.declared.failure.Fault.{Fault}
 use Rattle.keel_base.specs.declared.op.Batch.{Batch}
 use Rattle.keel_disk.specs.State.{State as Disk}
 use Rattle.keel_disk.specs.Step.{DiskStep}
-use Rattle.keel_machine.specs.States.{State, Seen, Mode, Story, OwnLog, Group, Act, MakeLog, SyncDirectory, AddRecords, SyncLog, Writing}
+use Rattle.keel_machine.specs.States.{State, Seen, Footing, Mode, Story, OwnLog, Group, Act, MakeLog, SyncDirectory, AddRecords, SyncLog, Writing}
 use Rattle.keel_machine.specs.Writing.{change_of}
 use Rattle.keel_machine.specs.WritingAfter.{first_done, group_done, first_failed, group_failed}
 use Rattle.keel_recovery.specs.Machine.{calls_from_append, AwaitsAppend, AwaitsSync, IsCoveredIn, IsOpenCovered}
+use Rattle.keel_recovery.proofs.Tests.{none_some}
 use Rattle.keel_recovery.proofs.Places.{went_well, went_wrong, make_done, sync_dir_done, add_done, add_published, sync_done, make_failed, sync_dir_failed, add_failed, sync_failed}
-
-pub none_some : {A P : Type 0} (x : A) → Some x ≡ None → P
-none_some x e = cc
 
 first_act : (left : List Act) (act first : Act) (later others : List Act) → left ≡ act ∷ later → left ≡ first ∷ others → act ≡ first
 first_act left act first later others e k = cc
 
-module _ (device : Seen) (mode : Mode) (story : Story) (writing : Writing) (number : ℕ) (running : Option Group) (next_file : ℕ) (tickets : List ℕ) (batches : List Batch) (before after : Disk) where
+module _ (device : Seen) (footing : Footing) (mode : Mode) (story : Story) (writing : Writing) (number : ℕ) (running : Option Group) (next_file : ℕ) (tickets : List ℕ) (batches : List Batch) (before after : Disk) where
   abbrev state_in : List Failure → Option OwnLog → State
   state_in failures log = record {
     device = device;
+    footing = footing;
     mode = mode;
     story = story;
     log = log;
@@ -138,12 +137,12 @@ pub group_done_keeps : (s : State) (group : Group) (act : Act) (later : List Act
     → IsOpenCovered before s → DiskStep before (change_of s group act) went_well after → IsOpenCovered after (group_done s.jobs.write.running s)
 group_done_keeps s group act later runs next before after h step =
     subst (λ (running : Option Group). IsOpenCovered after (group_done running s)) (sym runs)
-    (done_at s.device s.mode s.story s.writing s.jobs.write.number s.jobs.write.running s.numbers.next_file group.tickets group.batches before after
+    (done_at s.device s.footing s.mode s.story s.writing s.jobs.write.number s.jobs.write.running s.numbers.next_file group.tickets group.batches before after
     s.failing.failures s.log group.log group.left act later next (subst (Runs before s) runs h) step)
 
 pub group_failed_keeps : (s : State) (group : Group) (act : Act) (later : List Act) (fault : Fault) (failure : Failure) → s.jobs.write.running ≡ Some group → group.left ≡ act ∷ later
     → (before after : Disk) → IsOpenCovered before s → DiskStep before (change_of s group act) (went_wrong fault) after → IsOpenCovered after (group_failed s.jobs.write.running failure s)
 group_failed_keeps s group act later fault failure runs next before after h step =
     subst (λ (running : Option Group). IsOpenCovered after (group_failed running failure s)) (sym runs)
-    (failed_at s.device s.mode s.story s.writing s.jobs.write.number s.jobs.write.running s.numbers.next_file group.tickets group.batches before after fault failure
+    (failed_at s.device s.footing s.mode s.story s.writing s.jobs.write.number s.jobs.write.running s.numbers.next_file group.tickets group.batches before after fault failure
     s.failing.failures s.log group.log group.left act later next (subst (Runs before s) runs h) step)

@@ -10,8 +10,8 @@ use Rattle.keel_disk.specs.Image.{firm_file, image_files, image_names, restarted
 use Rattle.keel_disk.specs.Plain.{PlainImage, bytes_read, image_read}
 use Rattle.keel_disk.specs.Sound.{IsSound, IsAtRest}
 use Rattle.keel_disk.proofs.Resting.{crash_rests}
-use Rattle.keel_machine.specs.States.{Story}
-use Rattle.keel_recovery.specs.Crashing.{cut_story, LeavesPrefix}
+use Rattle.keel_machine.specs.States.{Story, cut_story}
+use Rattle.keel_recovery.specs.Crashing.{LeavesPrefix}
 use Rattle.keel_recovery.specs.Standing.{ReadsIn, Stands}
 use Rattle.keel_recovery.proofs.Opened.{rest_stands}
 

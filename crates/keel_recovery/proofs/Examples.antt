@@ -8,10 +8,9 @@ use Rattle.keel_disk.specs.declared.state.Operation.{Operation}
 use Rattle.keel_disk.specs.declared.state.Operation.TheVariants.{Link}
 use Rattle.keel_disk.specs.State.{State, new_file}
 use Rattle.keel_disk.specs.Sound.{IsFile, IsAtRest}
-use Rattle.keel_machine.specs.States.{Story}
+use Rattle.keel_machine.specs.States.{Story, new_story}
 use Rattle.keel_reading.specs.Reading.{ReadsBelow}
 use Rattle.keel_recovery.specs.Covering.{NoLog, Ready, Trail, no_trail, Covered}
-use Rattle.keel_recovery.specs.Crashing.{new_story}
 use Rattle.keel_recovery.specs.Worked.{two_puts, behind_one, behind_both, TwoPuts, first_bytes, FirstBatch}
 use Rattle.keel_recovery.proofs.Calls.{create_covers, sync_dir_covers, append_covers, sync_covers}
 use Rattle.keel_recovery.proofs.MoreLogs.{nothing_said}

@@ -6,8 +6,8 @@ use Rattle.keel_base.specs.Points.{Point, fold_batches}
 use Rattle.keel_base.specs.declared.op.Op.{Op}
 use Rattle.keel_disk.specs.Image.{restarted}
 use Rattle.keel_disk.specs.Plain.{image_read}
-use Rattle.keel_machine.specs.States.{Story}
-use Rattle.keel_recovery.specs.Crashing.{cut_story, moved_story}
+use Rattle.keel_machine.specs.States.{Story, cut_story}
+use Rattle.keel_recovery.specs.Crashing.{moved_story}
 use Rattle.keel_recovery.specs.Laws.{OpeningFindsPrefix, OpeningFindsPublished}
 use Rattle.keel_recovery.specs.Standing.{InPrefixes}
 use Rattle.keel_recovery.proofs.Crashed.{crash_leaves}

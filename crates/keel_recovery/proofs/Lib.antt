@@ -1,4 +1,7 @@
 pub mod Numbering
+pub mod Tests
+pub mod Sizes
+pub mod OneToOne
 pub mod MoreLogs
 pub mod TornLog
 pub mod OneReading
@@ -14,5 +17,9 @@ pub mod Found
 pub mod Places
 pub mod Acts
 pub mod Turning
+pub mod Kept
+pub mod Restarted
+pub mod Crashing
+pub mod GoingOn
 pub mod Machine
 pub mod Examples

@@ -10,10 +10,10 @@ use Rattle.keel_disk.specs.Image.{AllFirm}
 use Rattle.keel_disk.specs.Plain.{bytes_read, image_read}
 use Rattle.keel_disk.specs.Sound.{AreOwn, IsAtRest}
 use Rattle.keel_disk.proofs.Resting.{rest_has_one}
-use Rattle.keel_machine.specs.States.{Story}
+use Rattle.keel_machine.specs.States.{Story, new_story}
 use Rattle.keel_reading.specs.Reading.{ReadsBelow, Reads}
 use Rattle.keel_recovery.specs.Covering.{NoLog, no_trail, AreHeld, Kept, Covered}
-use Rattle.keel_recovery.specs.Crashing.{IsAfterCrash, new_story}
+use Rattle.keel_recovery.specs.Crashing.{IsAfterCrash}
 use Rattle.keel_recovery.specs.Standing.{ReadsIn, Stands}
 use Rattle.keel_recovery.proofs.OneReading.{reads_once}
 

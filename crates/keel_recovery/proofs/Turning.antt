@@ -15,28 +15,11 @@ use Rattle.keel_machine.specs.States.{State, Story, OwnLog, Group, Ticketed, poi
 use Rattle.keel_machine.specs.Tests.{first_some, when, differing}
 use Rattle.keel_machine.specs.Writing.{group_plan, started, started_or, ready, turned_away, rest_in_group, cancelled, write_rest}
 use Rattle.keel_recovery.specs.Batches.{AreBatches}
-use Rattle.keel_recovery.specs.Machine.{IsWithinLimits, ops_waiting, IsInOrder, IsCoveredIn, IsOpenCovered}
-use Rattle.keel_recovery.proofs.Acts.{none_some}
+use Rattle.keel_recovery.specs.Machine.{ops_waiting, IsInOrder, IsCoveredIn, IsOpenCovered}
+use Rattle.keel_recovery.proofs.Tests.{none_some, none_first, none_later, none_mapped, none_when}
 use Rattle.keel_recovery.proofs.Numbering.{batches_append}
 use Rattle.keel_recovery.proofs.Places.{front_batches, counted_append}
-
--- ---- tests that don't hold
-
-pub none_first : {A : Type 0} (test : Option A) (rest : List (Option A)) → first_some (test ∷ rest) ≡ None → test ≡ None
-none_first None rest h = refl
-none_first (Some answer) rest h = none_some answer h
-
-pub none_later : {A : Type 0} (test : Option A) (rest : List (Option A)) → first_some (test ∷ rest) ≡ None → first_some rest ≡ None
-none_later None rest h = h
-none_later (Some answer) rest h = none_some answer h
-
-pub none_mapped : {A B : Type 0} (f : A → B) (value : Option A) → option_map f value ≡ None → value ≡ None
-none_mapped f None h = refl
-none_mapped f (Some value) h = none_some (f value) h
-
-pub none_when : {A : Type 0} (test : Bool) (answer : A) → when test answer ≡ None → test ≡ false
-none_when true answer h = none_some answer h
-none_when false answer h = refl
+use Rattle.keel_recovery.proofs.Sizes.{IsWithinLimits}
 
 -- ---- a group is formed
 

@@ -7,7 +7,7 @@ use Rattle.keel_disk.specs.State.{State}
 use Rattle.keel_disk.specs.Image.{restarted}
 use Rattle.keel_disk.specs.Plain.{PlainMid}
 use Rattle.keel_disk.specs.Sound.{IsAtRest}
-use Rattle.keel_machine.specs.States.{Story, point_of}
+use Rattle.keel_machine.specs.States.{Story, cut_story, point_of}
 use Rattle.keel_recovery.specs.Covering.{NoLog, no_trail, Covered}
 use Rattle.keel_recovery.specs.Standing.{ReadsIn, Stands}
 
@@ -15,14 +15,6 @@ use Rattle.keel_recovery.specs.Standing.{ReadsIn, Stands}
 pub record IsAfterCrash (story : Story) : Type 0 where
   pub none_in_limbo : story.limbo ≡ []
   pub all_stay : story.floor ≡ length story.log
-
--- the story that a first opening begins
-abbrev pub new_story : Point → Story
-new_story start = record { start = start; log = []; limbo = []; floor = 0 }
-
--- the story behind a crash that kept so many batches
-abbrev pub cut_story : ℕ → Story → Story
-cut_story count story = record { start = story.start; log = take count (story.log ++ story.limbo); limbo = []; floor = count }
 
 -- What a crash leaves is a device at rest that stands for so many batches of the story, with all that must not be lost.
 pub record LeavesPrefix (image : Named (List ℕ)) (story : Story) : Type 0 where

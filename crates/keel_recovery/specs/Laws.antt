@@ -12,13 +12,13 @@ use Rattle.keel_disk.specs.Plain.{PlainImage, image_read}
 use Rattle.keel_disk.specs.Sound.{IsSound, IsAtRest}
 use Rattle.keel_frag.specs.Writing.{records_bytes}
 use Rattle.keel_machine.specs.Admission.{ops_of}
-use Rattle.keel_machine.specs.States.{Story}
+use Rattle.keel_machine.specs.States.{Story, new_story}
 use Rattle.keel_machine.specs.Writing.{payloads_from}
 use Rattle.keel_machine.specs.WritingAfter.{handed_over, story_published}
 use Rattle.keel_reading.specs.Reading.{ReadsBelow, Reads}
 use Rattle.keel_recovery.specs.Batches.{AreBatches}
 use Rattle.keel_recovery.specs.Covering.{Stage, NoLog, Created, Ready, Stopped, Trail, no_trail, Covered}
-use Rattle.keel_recovery.specs.Crashing.{IsAfterCrash, new_story, LeavesPrefix, FindsPrefix, FindsPublished, InsideCall}
+use Rattle.keel_recovery.specs.Crashing.{IsAfterCrash, LeavesPrefix, FindsPrefix, FindsPublished, InsideCall}
 use Rattle.keel_recovery.specs.Standing.{ReadsIn, Stands}
 use Rattle.keel_recovery.specs.Steps.{Answer, trail_handed, trail_published, by_answer}
 

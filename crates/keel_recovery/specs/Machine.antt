@@ -1,18 +1,25 @@
 -- The states of the machine whose device stands for their story, and that every turn keeps them so.
-use Rattle.std.specs.Prelude.{◌≡◌, ◌⊎◌, ℕ, ◌≤◌, Bool, true, false, List, [], ◌∷◌, ◌++◌, Option, Some, None, length, map, if◌then◌else◌}
-use Rattle.std.specs.List.{AllByRecursion}
+use Rattle.std.specs.Prelude.{◌≡◌, ◌≢◌, ◌⊎◌, ℕ, ◌≤◌, Bool, true, false, List, [], ◌∷◌, ◌++◌, Option, Some, None, length, map, if◌then◌else◌, Err, Ok}
 use Rattle.keel_base.specs.declared.failure.Failure.{Failure}
+use Rattle.keel_base.specs.declared.memory.OutOfMemory.{OutOfMemory}
 use Rattle.keel_base.specs.declared.op.Batch.{Batch}
 use Rattle.keel_base.specs.declared.op.Op.{Op}
-use Rattle.keel_batch.specs.Spelling.{IsOp}
-use Rattle.keel_disk.specs.State.{State as Disk}
-use Rattle.keel_disk.specs.Told.{Told}
-use Rattle.keel_disk.specs.Sound.{IsAtRest}
+use Rattle.keel_disk.specs.State.{State as Disk, directory_read}
+use Rattle.keel_disk.specs.Plain.{image_read}
+use Rattle.keel_disk.specs.Told.{Told, Crashes}
+use Rattle.keel_disk.specs.Sound.{IsOneToOne, IsAtRest}
+use Rattle.keel_reading.specs.declared.refusal.OpenRefusal.{OpenRefusal}
+use Rattle.keel_reading.specs.declared.refusal.OpenRefusal.TheVariants as refusal
+use Rattle.keel_reading.specs.Answers.{AreNames}
+use Rattle.keel_reading.specs.Reading.{Reads}
 use Rattle.keel_machine.specs.Admission.{ops_of, batches_of_group}
-use Rattle.keel_machine.specs.States.{State, Mode, Unopened, Closed, Open, Story, OwnLog, Group, Ticketed, Act, MakeLog, SyncDirectory, AddRecords, SyncLog, point_of}
-use Rattle.keel_machine.specs.Turns.{Event, Opening, Admitting, Finishing, Turn}
+use Rattle.keel_machine.specs.Crash.{CrashAnswers}
+use Rattle.keel_machine.specs.Opening.{OpenAnswers, continues}
+use Rattle.keel_machine.specs.States.{State, Seen, Footing, Known, Unknown, Mode, Unopened, Closed, Open, Story, OwnLog, Group, Ticketed, Act, MakeLog, SyncDirectory, AddRecords, SyncLog, point_of}
+use Rattle.keel_machine.specs.Turns.{Event, Opening, Listing, Crashing, Finishing, Turn}
 use Rattle.keel_recovery.specs.Batches.{AreBatches}
 use Rattle.keel_recovery.specs.Covering.{Stage, NoLog, Created, Ready, Stopped, Trail, Covered}
+use Rattle.keel_recovery.specs.Crashing.{IsAfterCrash}
 use Rattle.keel_recovery.specs.Standing.{Stands}
 
 abbrev pub is_open : Mode → Bool
@@ -20,28 +27,24 @@ is_open Unopened = false
 is_open Closed = false
 is_open Open = true
 
--- a batch of 1 to 1000 ops, with keys and values within their limits
-pub record IsWithinLimits (batch : Batch) : Type 0 where
-  pub some : 1 ≤ length batch.ops
-  pub few : length batch.ops ≤ 1000
-  pub each : AllByRecursion IsOp batch.ops
-
--- what a caller may ask: a store is opened where none is open, and the other calls are those of an open one
+-- what a caller may ask: a store is opened where none is open, and the other calls are those of an open one, but for
+-- crashes and listings
 abbrev pub MayCall : State → Event → Type 0
 MayCall s (Opening answer) = is_open s.mode ≡ false
-MayCall s (Admitting batch answer) = (is_open s.mode ≡ true) × IsWithinLimits batch
+MayCall s (Listing answer) = Unit {0}
+MayCall s (Crashing kept) = Unit {0}
 MayCall s Finishing = ⊥
 MayCall s event = is_open s.mode ≡ true
 
--- where no store is open and the device tells its state, it is at rest
+-- the device tells its state, which is at rest
 abbrev pub RestsIn : Option Told → Type 0
-RestsIn None = Unit {0}
+RestsIn None = ⊥
 RestsIn (Some told) = IsAtRest told.state
 
--- the device that tells its state stands for the state's story
-abbrev pub StandsIn : Option Told → State → Type 0
-StandsIn None s = Unit {0}
-StandsIn (Some told) s = Stands told.state s.story
+-- the device tells its state, which stands for the story
+abbrev pub StandsIn : Option Told → Story → Type 0
+StandsIn None story = ⊥
+StandsIn (Some told) story = Stands told.state story
 
 -- ---- what an open store keeps
 
@@ -116,15 +119,32 @@ pub record IsCoveredIn (state : Disk) (story : Story) (log : Option OwnLog) (wai
 abbrev pub IsOpenCovered : Disk → State → Type 0
 IsOpenCovered state s = IsCoveredIn state s.story s.log s.writing.waiting s.failing.failures s.jobs.write.running s.numbers.next_file
 
--- by what the device tells and whether a store is open
-abbrev pub IsCoveredBy : Option Told → Bool → State → Type 0
-IsCoveredBy None is_one_open s = Unit {0}
-IsCoveredBy (Some told) true s = IsOpenCovered told.state s
-IsCoveredBy (Some told) false s = IsAtRest told.state
+-- the device of an open store: names and files go one to one, the next file has a number, and the store covers it
+pub record IsKept (state : Disk) (s : State) : Type 0 where
+  pub one_to_one : IsOneToOne state
+  pub numbered : 1 ≤ s.numbers.next_file
+  pub covered : IsOpenCovered state s
 
--- A device that tells its state is covered where a store is open, and at rest where none is.
+-- the device as a crash left it: at rest, and it stands for what is left of the story
+pub record IsLeft (state : Disk) (story : Story) : Type 0 where
+  pub at_rest : IsAtRest state
+  pub after_crash : IsAfterCrash story
+  pub stands : Stands state story
+
+-- what is kept before a first opening, behind a crash, and of an open store
+abbrev pub HoldsBy : Mode → Disk → State → Type 0
+HoldsBy Unopened state s = IsAtRest state
+HoldsBy Closed state s = IsLeft state s.story
+HoldsBy Open state s = IsKept state s
+
+-- a known device tells its state, and of it that is kept
+abbrev pub IsCoveredBy : Footing → Mode → Option Told → State → Type 0
+IsCoveredBy Unknown mode told s = Unit {0}
+IsCoveredBy Known mode None s = ⊥
+IsCoveredBy Known mode (Some told) s = HoldsBy mode told.state s
+
 abbrev pub IsCovered : State → Type 0
-IsCovered s = IsCoveredBy s.device.told (is_open s.mode) s
+IsCovered s = IsCoveredBy s.footing s.mode s.device.told s
 
 -- ---- the laws
 
@@ -132,10 +152,49 @@ IsCovered s = IsCoveredBy s.device.told (is_open s.mode) s
 abbrev pub TurnKeeps : Type 0
 TurnKeeps = (s next : State) (event : Event) → MayCall s event → Turn s event next → IsCovered s → IsCovered next
 
--- a covered device stands for the story of the open store
+-- a covered device that is known stands for the story, once there is one
 abbrev pub CoveredStands : Type 0
-CoveredStands = (s : State) → is_open s.mode ≡ true → IsCovered s → StandsIn s.device.told s
+CoveredStands = (s : State) → s.footing ≡ Known → s.mode ≢ Unopened → IsCovered s → StandsIn s.device.told s.story
 
--- before an opening, a device at rest is covered
+-- before a first opening, a device at rest is covered
 abbrev pub StartsCovered : Type 0
-StartsCovered = (s : State) → is_open s.mode ≡ false → RestsIn s.device.told → IsCovered s
+StartsCovered = (s : State) → s.mode ≡ Unopened → (s.footing ≡ Known → RestsIn s.device.told) → IsCovered s
+
+-- a crash of a simulated device, which leaves the counts
+pub record Drops (s : State) (device : Seen) : Type 0 where
+  pub simulated : s.device.simulated ≡ true
+  pub crash : Crashes {E = OutOfMemory} s.device.told (Ok true) device.told
+  pub count : device.changes ≡ s.device.changes
+  pub faults : device.faults ≡ s.device.faults
+  pub last_fault : device.last_fault ≡ s.device.last_fault
+  pub same : device.simulated ≡ s.device.simulated
+
+-- Whatever a crash leaves of a covered device is a turn of the machine: of a known one, so many batches of the story, and
+-- all that must not be lost, unless the image is forged.
+abbrev pub CrashTurns : Type 0
+CrashTurns =
+    (s : State) (device : Seen) → IsCovered s → Drops s device → (kept : Option ℕ) × CrashAnswers s kept device
+
+-- where the story goes on, the directory reads as the point that it leads to
+pub record ReadsOn (told : Told) (story : Story) : Type 0 where
+  pub names : AreNames (directory_read told.state)
+  pub reads : Reads (image_read told.state) (point_of story)
+  pub after_crash : IsAfterCrash story
+
+abbrev pub ReadsOnIn : Option Told → Story → Type 0
+ReadsOnIn None story = ⊥
+ReadsOnIn (Some told) story = ReadsOn told story
+
+abbrev pub CoveredReads : Type 0
+CoveredReads = (s : State) → continues s.mode s.footing ≡ true → IsCovered s → ReadsOnIn s.device.told s.story
+
+-- an opening that goes on with a story is refused for a fault of the device or for want of memory alone
+abbrev pub IsOfDevice : OpenRefusal → Type 0
+IsOfDevice (refusal.Device fault) = Unit {0}
+IsOfDevice refusal.OutOfMemory = Unit {0}
+IsOfDevice other = ⊥
+
+abbrev pub OpeningGoesOn : Type 0
+OpeningGoesOn =
+    (s : State) (refused : OpenRefusal) (device : Seen)
+    → continues s.mode s.footing ≡ true → IsCovered s → OpenAnswers s (Err refused) device → IsOfDevice refused

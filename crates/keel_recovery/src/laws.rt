@@ -2,7 +2,7 @@
 ghost use Rattle.keel_recovery.specs.Laws.{CoveringStands, CrashLeavesPrefix, FirstOpening, OneReading, OpeningCovers, OpeningFindsPrefix, OpeningFindsPublished, ReadingLeavesPrefix};
 ghost use Rattle.keel_recovery.specs.Laws.{AppendCovers, CreateCovers, PublishCovers, SyncCovers, SyncDirCovers};
 ghost use Rattle.keel_recovery.specs.Laws.{InsideAppend, InsideCreate, InsideSync, InsideSyncDir};
-ghost use Rattle.keel_recovery.specs.Machine.{CoveredStands, StartsCovered, TurnKeeps};
+ghost use Rattle.keel_recovery.specs.Machine.{CoveredReads, CoveredStands, CrashTurns, StartsCovered, TurnKeeps};
 ghost use Rattle.keel_recovery.specs.Worked.{FirstBatch, TwoPuts};
 
 /// A device that an open store covers stands for its story.
@@ -103,6 +103,16 @@ pub fn turn_keeps()
 /// The device of an open machine that keeps it covered stands for the machine's story.
 pub fn covered_stands()
     ensures { CoveredStands }
+{}
+
+/// Whatever a crash leaves of a machine's covered device is a turn of the machine.
+pub fn crash_turns()
+    ensures { CrashTurns }
+{}
+
+/// Where a machine's story goes on, the directory of its covered device reads as the point that it leads to.
+pub fn covered_reads()
+    ensures { CoveredReads }
 {}
 
 /// What a crash may leave of two puts, of which the first was synced.
