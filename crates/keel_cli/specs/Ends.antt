@@ -1,20 +1,22 @@
 -- How a run over a workload may end, and what it then has done.
-use Rattle.std.specs.Prelude.{◌≡◌, ℕ, ◌+◌, ◌⊎◌, Option, None, Some, List, [], ◌∷◌, ◌++◌, length, codes}
+use Rattle.std.specs.Prelude.{◌≡◌, ◌<◌, ℕ, ◌+◌, ◌⊎◌, Option, None, Some, List, [], ◌∷◌, ◌++◌, length, codes}
 use Rattle.std.specs.Fmt.{decimal}
 use Rattle.std.specs.Io.KnownBytes.{Appends}
 use Rattle.keel_base.specs.Counts.{Rose}
 use Rattle.keel_base.specs.Streams.{TakesAll, TakesMore, AppendsPart}
-use Rattle.keel_machine.specs.States.{State, Seen}
-use Rattle.keel_cli.specs.declared.command.Command.{Command}
-use Rattle.keel_cli.specs.declared.reply.Reply.{Reply}
+use Rattle.keel_machine.specs.States.{Seen, Footing}
+use Rattle.keel_script.specs.declared.command.Command.{Command}
+use Rattle.keel_script.specs.declared.reply.Reply.{Reply}
 use Rattle.keel_cli.specs.declared.top.End.{End}
-use Rattle.keel_cli.specs.declared.top.End.TheVariants.{Completed, Usage, NotACommand, LongInput, ReadFault, WriteFault, OutOfMemory}
+use Rattle.keel_cli.specs.declared.top.End.TheVariants.{Completed, Usage, NotACommand, LongLine, LongInput, ReadFault, WriteFault, OutOfMemory}
 use Rattle.keel_cli.specs.declared.lines.StopPlace.{StopPlace}
 use Rattle.keel_cli.specs.declared.lines.LineStop.{LineStop}
-use Rattle.keel_cli.specs.declared.lines.LineStop.TheVariants.{Refused, Unwritten, NoMemory}
-use Rattle.keel_cli.specs.Grammar.{Says, IsNoCommand, lines_of}
+use Rattle.keel_cli.specs.declared.lines.LineStop.TheVariants.{Refused, TooLong, Unwritten, NoMemory}
+use Rattle.keel_cli.specs.Cuts.{CutShort}
+use Rattle.keel_cli.specs.Grammar.{longest_line, Says, AreCommands, IsNoCommand, lines_of}
 use Rattle.keel_cli.specs.Replies.{text}
-use Rattle.keel_cli.specs.Runs.{Carries, Partly, Progress, unopened}
+use Rattle.keel_cli.specs.Runs.{Carries, Run}
+use Rattle.keel_cli.specs.Sessions.{Session, Begins, MayBegin}
 use Rattle.keel_cli.specs.Standing.{Recovers}
 
 -- what is told of the outside, and how often each part of it has failed
@@ -28,46 +30,43 @@ pub record Outside : Type 0 where
 abbrev pub longest_input : ℕ
 longest_input = 67108864
 
--- no store was opened, and the device is as it was handed in
-abbrev pub start_of : Outside → State
-start_of before = unopened before.device
-
--- Memory ended before the command, at a call of it, or behind it where its reply was to be printed.
-abbrev pub CutShort : State → Command → State → Type 0
-CutShort old command new = (new ≡ old) ⊎ (((replies : List Reply) × Carries old command replies new) ⊎ Partly old command new)
-
 -- the replies to this command were written in part
-pub record WritesPart (old : State) (held : Option (List ℕ)) (command : Command) (new : State) (holds : Option (List ℕ)) : Type 0 where
+pub record WritesPart (old : Session) (held : Option (List ℕ)) (command : Command) (new : Session) (holds : Option (List ℕ)) : Type 0 where
   pub replies : List Reply
   pub carries : Carries old command replies new
   pub part : AppendsPart held holds (text replies)
 
 -- the replies to this command were written
-pub record Writes (old : State) (held : Option (List ℕ)) (command : Command) (new : State) (holds : Option (List ℕ)) : Type 0 where
+pub record Writes (old : Session) (held : Option (List ℕ)) (command : Command) (new : Session) (holds : Option (List ℕ)) : Type 0 where
   pub replies : List Reply
   pub carries : Carries old command replies new
   pub written : Appends held holds (text replies)
 
 -- how carrying out a command ends
-abbrev pub CommandEnds : Option LineStop → State → Option (List ℕ) → Command → State → Option (List ℕ) → Type 0
+abbrev pub CommandEnds : Option LineStop → Session → Option (List ℕ) → Command → Session → Option (List ℕ) → Type 0
 CommandEnds None old held command new holds = Writes old held command new holds
 CommandEnds (Some Unwritten) old held command new holds = WritesPart old held command new holds
 CommandEnds (Some NoMemory) old held command new holds = CutShort old command new × (holds ≡ held)
 CommandEnds (Some Refused) old held command new holds = ⊥
-
--- the line is the first that says nothing
-pub record IsRefused (line : List ℕ) : Type 0 where
-  pub no_command : IsNoCommand line
-  pub not_blank : line ≡ [] → ⊥
+CommandEnds (Some TooLong) old held command new holds = ⊥
 
 -- why a run stops at this line, from old and held to new and holds
-abbrev pub Stops : LineStop → State → Option (List ℕ) → List ℕ → State → Option (List ℕ) → Type 0
-Stops Refused old held line new holds = IsRefused line × (new ≡ old) × (holds ≡ held)
+abbrev pub Stops : LineStop → Session → Option (List ℕ) → List ℕ → Session → Option (List ℕ) → Type 0
+Stops Refused old held line new holds = IsNoCommand line × (new ≡ old) × (holds ≡ held)
+Stops TooLong old held line new holds = (longest_line < length line) × (new ≡ old) × (holds ≡ held)
 Stops Unwritten old held line new holds = (command : Command) × Says line (command ∷ []) × WritesPart old held command new holds
 Stops NoMemory old held line new holds = ((new ≡ old) ⊎ ((command : Command) × Says line (command ∷ []) × CutShort old command new)) × (holds ≡ held)
 
+-- These lines were carried out: they are commands, the machine went on by them, and what is held grew by their replies.
+pub record Progress (old : Session) (held : Option (List ℕ)) (lines : List (List ℕ)) (new : Session) (holds : Option (List ℕ)) : Type 0 where
+  pub commands : List Command
+  pub replies : List Reply
+  pub read : AreCommands lines commands
+  pub run : Run old commands replies new
+  pub written : Appends held holds (text replies)
+
 -- the line was carried out, or the run stops there
-abbrev pub LineEnds : Option LineStop → State → Option (List ℕ) → List ℕ → State → Option (List ℕ) → Type 0
+abbrev pub LineEnds : Option LineStop → Session → Option (List ℕ) → List ℕ → Session → Option (List ℕ) → Type 0
 LineEnds None old held line new holds = Progress old held (line ∷ []) new holds
 LineEnds (Some stop) old held line new holds = Stops stop old held line new holds
 
@@ -79,44 +78,50 @@ abbrev pub IsUnwrittenAt : Option StopPlace → Type 0
 IsUnwrittenAt stop = (line : ℕ) × (stop ≡ Some (record { stop = Unwritten; line = line }))
 
 -- the lines before this one were carried out, and then the run stops there
-pub record StopsAt (stop : LineStop) (old : State) (held : Option (List ℕ)) (lines : List (List ℕ)) (number : ℕ) (new : State) (holds : Option (List ℕ)) : Type 0 where
+pub record StopsAt (stop : LineStop) (old : Session) (held : Option (List ℕ)) (lines : List (List ℕ)) (number : ℕ) (new : Session) (holds : Option (List ℕ)) : Type 0 where
   pub before : List (List ℕ)
   pub line : List ℕ
   pub behind : List (List ℕ)
   pub lines_are : lines ≡ before ++ line ∷ behind
   pub number_is : number ≡ length before + 1
-  pub mid : State
+  pub mid : Session
   pub holds_mid : Option (List ℕ)
   pub progress : Progress old held before mid holds_mid
   pub stops : Stops stop mid holds_mid line new holds
 
 -- all lines were carried out, or the run stops at one of them
-abbrev pub LinesEnd : Option StopPlace → State → Option (List ℕ) → List (List ℕ) → State → Option (List ℕ) → Type 0
+abbrev pub LinesEnd : Option StopPlace → Session → Option (List ℕ) → List (List ℕ) → Session → Option (List ℕ) → Type 0
 LinesEnd None old held lines new holds = Progress old held lines new holds
 LinesEnd (Some at) old held lines new holds = StopsAt at.stop old held lines at.line new holds
 
+-- From a beginning on this device, lines end so on the device that is handed back, and what it stands for.
+pub record LinesRun (stop : Option StopPlace) (footing : Footing) (handed_in : Seen) (held : Option (List ℕ)) (lines : List (List ℕ)) (handed_back : Seen) (holds : Option (List ℕ)) : Type 0 where
+  pub first : Session
+  pub begins : Begins footing handed_in first
+  pub last : Session
+  pub ends : LinesEnd stop first held lines last holds
+  pub device : handed_back ≡ last.store.device
+  pub recovers : Recovers footing handed_in.told last.store
+
+-- so it is on each footing on which the run may begin
+abbrev pub LinesRuns : Option StopPlace → Seen → Option (List ℕ) → List (List ℕ) → Seen → Option (List ℕ) → Type 0
+LinesRuns stop handed_in held lines handed_back holds =
+    (footing : Footing) → MayBegin footing handed_in.told → LinesRun stop footing handed_in held lines handed_back holds
+
 abbrev pub end_at : LineStop → ℕ → End
 end_at Refused line = NotACommand line
+end_at TooLong line = LongLine line
 end_at Unwritten line = WriteFault
 end_at NoMemory line = OutOfMemory
 
--- the input was read to its end, and every line was carried out
-pub record Completes (before after : Outside) : Type 0 where
+-- the input was read to its end, and its lines were carried out, or the run stopped at one of them
+pub record Reads (stop : Option StopPlace) (before after : Outside) : Type 0 where
   pub input : List ℕ
   pub taken : TakesAll before.left after.left longest_input input
-  pub last : State
-  pub progress : Progress (start_of before) before.held (lines_of input) last after.held
-  pub handed_back : after.device ≡ last.device
-  pub recovers : Recovers before.device last
+  pub runs : LinesRuns stop before.device before.held (lines_of input) after.device after.held
 
--- the input was read to its end, and the run stopped at this line
-pub record Breaks (stop : LineStop) (number : ℕ) (before after : Outside) : Type 0 where
-  pub input : List ℕ
-  pub taken : TakesAll before.left after.left longest_input input
-  pub last : State
-  pub stops : StopsAt stop (start_of before) before.held (lines_of input) number last after.held
-  pub handed_back : after.device ≡ last.device
-  pub recovers : Recovers before.device last
+abbrev pub stop_at : LineStop → ℕ → Option StopPlace
+stop_at stop line = Some (record { stop = stop; line = line })
 
 -- nothing was carried out or written
 pub record Untouched (before after : Outside) : Type 0 where
@@ -125,28 +130,35 @@ pub record Untouched (before after : Outside) : Type 0 where
 
 -- what was done where the run ends so
 abbrev pub Ends : End → Outside → Outside → Type 0
-Ends Completed before after = Completes before after
+Ends Completed before after = Reads None before after
 Ends Usage before after = after ≡ before
-Ends (NotACommand line) before after = Breaks Refused line before after
+Ends (NotACommand line) before after = Reads (stop_at Refused line) before after
+Ends (LongLine line) before after = Reads (stop_at TooLong line) before after
 Ends LongInput before after = TakesMore before.left after.left longest_input × Untouched before after
 Ends ReadFault before after = Rose before.read_faults after.read_faults × Untouched before after
-Ends WriteFault before after = Rose before.write_faults after.write_faults × ((line : ℕ) × Breaks Unwritten line before after)
-Ends OutOfMemory before after = Untouched before after ⊎ ((line : ℕ) × Breaks NoMemory line before after)
+Ends WriteFault before after = Rose before.write_faults after.write_faults × ((line : ℕ) × Reads (stop_at Unwritten line) before after)
+Ends OutOfMemory before after = Untouched before after ⊎ ((line : ℕ) × Reads (stop_at NoMemory line) before after)
 
 abbrev pub status_of : End → ℕ
 status_of Completed = 0
 status_of Usage = 2
 status_of (NotACommand line) = 3
+status_of (LongLine line) = 3
 status_of LongInput = 3
 status_of ReadFault = 4
 status_of WriteFault = 5
 status_of OutOfMemory = 6
 
+-- what stands behind the number of a line at which a run stops
+abbrev pub named : ℕ → List ℕ → List ℕ
+named line what = codes "line " ++ decimal line ++ what
+
 -- the text on err
 abbrev pub message_of : End → List ℕ
 message_of Completed = []
 message_of Usage = codes "usage: keel run, dir PATH, gen SEED COUNT, check, threads CLIENTS OPS SEED\n"
-message_of (NotACommand line) = codes "line " ++ decimal line ++ codes ": not a command\n"
+message_of (NotACommand line) = named line (codes ": not a command\n")
+message_of (LongLine line) = named line (codes ": longer than 8192 bytes\n")
 message_of LongInput = codes "input longer than 67108864 bytes\n"
 message_of ReadFault = codes "read fault\n"
 message_of WriteFault = codes "write fault\n"
@@ -162,11 +174,13 @@ Tells message old before new now = Appends old new message ⊎ (AppendsPart old 
 
 abbrev pub NamesNoLine : End → Type 0
 NamesNoLine (NotACommand line) = ⊥
+NamesNoLine (LongLine line) = ⊥
 NamesNoLine other = Unit {0}
 
 -- an end is told as it is, or for want of memory to name the line as that
 abbrev pub StaysOrRunsOut : End → End → Type 0
 StaysOrRunsOut (NotACommand line) told = (told ≡ NotACommand line) ⊎ (told ≡ OutOfMemory)
+StaysOrRunsOut (LongLine line) told = (told ≡ LongLine line) ⊎ (told ≡ OutOfMemory)
 StaysOrRunsOut end told = told ≡ end
 
 -- the end of a run that stops so

@@ -1,8 +1,12 @@
-pub mod Ends
+pub mod Sessions
 pub mod Grammar
-pub mod Places
 pub mod Puts
-pub mod Replies
+pub mod Drains
 pub mod Runs
+pub mod Replies
+pub mod Places
+pub mod Cuts
+pub mod Driving
 pub mod Standing
+pub mod Ends
 pub mod Words

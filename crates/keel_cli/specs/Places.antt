@@ -1,5 +1,5 @@
 -- Which states of the machine the driver's store stands for.
-use Rattle.std.specs.Prelude.{◌≡◌, ℕ, Bool, true, false, Option, List}
+use Rattle.std.specs.Prelude.{◌≡◌, ℕ, Bool, false, Option, List}
 use Rattle.std.specs.List.{AllByRecursion}
 use Rattle.keel_base.specs.declared.failure.Fault.{Fault}
 use Rattle.keel_disk.specs.Told.{Told}
@@ -13,8 +13,8 @@ use Rattle.keel_cli.specs.declared.place.Place.{Place}
 use Rattle.keel_cli.specs.declared.place.Place.TheVariants as place
 
 -- what a device shows, by the ways to see each part of it
-abbrev pub shown_by : {V : Type 0} → (V → Option Told) → (V → ℕ) → (V → ℕ) → (V → Option Fault) → V → Seen
-shown_by told changes faults last_fault device = seen (told device) (changes device) (faults device) (last_fault device)
+abbrev pub shown_by : {V : Type 0} → (V → Option Told) → (V → ℕ) → (V → ℕ) → (V → Option Fault) → (V → Bool) → V → Seen
+shown_by told changes faults last_fault simulated device = seen (told device) (changes device) (faults device) (last_fault device) (simulated device)
 
 -- no store is open, and the device shows this
 pub record IsShut (shows : Seen) (s : State) : Type 0 where
@@ -25,6 +25,11 @@ pub record IsShut (shows : Seen) (s : State) : Type 0 where
 abbrev pub Stands : {V : Type 0} → (V → Seen) → Place V → State → Type 0
 Stands shown (place.Closed device) s = IsShut (shown device) s
 Stands shown (place.Open core) s = StandsFor core s
+
+-- what its device shows
+abbrev pub device_of : {V : Type 0} → (V → Seen) → Place V → Seen
+device_of shown (place.Closed device) = shown device
+device_of shown (place.Open core) = core.device
 
 -- no outcome that the store keeps is Waiting or Unknown
 abbrev pub IsTold : Outcome → Type 0
@@ -43,6 +48,10 @@ IsTidy (place.Open core) = AreTold core.outcomes
 abbrev pub CoreLeads : CoreView → (State → Type 0) → Type 0
 CoreLeads core P = (s : State) × StandsFor core s × P s
 
--- it stands for a state of which this holds
+-- the driver's store stands for a state of which this holds
 abbrev pub Leads : {V : Type 0} → (V → Seen) → Place V → (State → Type 0) → Type 0
 Leads shown driver P = (s : State) × Stands shown driver s × P s
+
+-- its device is that of a state of which this holds
+abbrev pub Leaves : {V : Type 0} → (V → Seen) → Place V → (State → Type 0) → Type 0
+Leaves shown driver P = (s : State) × (device_of shown driver ≡ s.device) × P s

@@ -1,26 +1,35 @@
--- How a put is carried out by calls of the machine.
+-- How a write of one op is carried out by calls of the machine.
 use Rattle.std.specs.Prelude.{◌≡◌, ◌⊎◌, ℕ, Bool, Option, None, Some, List, [], ◌∷◌}
 use Rattle.keel_base.specs.declared.op.Batch.{Batch}
 use Rattle.keel_base.specs.declared.op.Op.TheVariants as op
 use Rattle.keel_base.specs.declared.failure.Counter.{Counter}
 use Rattle.keel_machine.specs.declared.answers.Admit.{Admit}
 use Rattle.keel_machine.specs.declared.answers.Admit.TheVariants as admit
+use Rattle.keel_machine.specs.declared.answers.Part.TheVariants as part
 use Rattle.keel_machine.specs.declared.answers.Outcome.{Outcome}
 use Rattle.keel_machine.specs.declared.answers.Outcome.TheVariants as outcome
 use Rattle.keel_machine.specs.declared.steps.WriteStep.{WriteStep}
 use Rattle.keel_machine.specs.declared.steps.WriteStep.TheVariants as step
 use Rattle.keel_machine.specs.States.{State}
 use Rattle.keel_machine.specs.Turns.{Turn, Admitting, Writing, TakingOutcome}
-use Rattle.keel_cli.specs.declared.reply.Reply.{Reply}
-use Rattle.keel_cli.specs.declared.reply.Reply.TheVariants as reply
+use Rattle.keel_script.specs.declared.reply.Reply.{Reply}
+use Rattle.keel_script.specs.declared.reply.Reply.TheVariants as reply
 
 -- the batch of one put
 abbrev pub put_batch : List ℕ → List ℕ → Bool → Batch
 put_batch key value sync = record { ops = op.Put key value ∷ []; sync = sync }
 
--- the reply that prints a refusal; a queued batch has none yet, and want of memory has none
+-- the batch of one delete
+abbrev pub del_batch : List ℕ → Bool → Batch
+del_batch key sync = record { ops = op.Del key ∷ []; sync = sync }
+
+-- The reply that prints a refusal. A queued batch has none yet, want of memory has none, and no count or weight of one op
+-- is refused.
 abbrev pub refusal_replies : Admit → Option (List Reply)
 refusal_replies (admit.Queued ticket) = None
+refusal_replies (admit.BadSize part.Key size) = Some (reply.BadSizeKey size ∷ [])
+refusal_replies (admit.BadSize part.Value size) = Some (reply.BadSizeValue size ∷ [])
+refusal_replies (admit.BadSize part.Batch size) = None
 refusal_replies (admit.Stopped failure) = Some (reply.Stopped failure ∷ [])
 refusal_replies (admit.Spent counter) = Some (reply.Spent counter ∷ [])
 refusal_replies (admit.QueueFull waiting) = Some (reply.QueueFull waiting ∷ [])
@@ -29,7 +38,7 @@ refusal_replies admit.OutOfMemory = None
 -- the reply that prints an outcome
 abbrev pub outcome_replies : Outcome → Option (List Reply)
 outcome_replies outcome.Waiting = None
-outcome_replies (outcome.Done seq) = Some (reply.Done seq ∷ [])
+outcome_replies (outcome.Done seq) = Some (reply.PutOk seq ∷ [])
 outcome_replies (outcome.Failed failure) = Some (reply.Failed failure ∷ [])
 outcome_replies (outcome.Turned failure) = Some (reply.Stopped failure ∷ [])
 outcome_replies outcome.Unknown = None

@@ -1,29 +1,39 @@
 -- The runs of the machine over commands, and how far a run over lines has come.
-use Rattle.std.specs.Prelude.{◌≡◌, ℕ, Bool, true, false, Option, None, Some, List, [], ◌∷◌, ◌++◌}
-use Rattle.std.specs.declared.result.Result.{Result}
-use Rattle.std.specs.declared.result.Result.TheVariants.{Ok, Err}
+use Rattle.std.specs.Prelude.{◌≡◌, ◌≢◌, ℕ, ◌+◌, ◌-◌, ◌^◌, min, Bool, true, false, Option, None, Some, List, [], ◌∷◌, ◌++◌, length, map, Result, Ok, Err}
 use Rattle.std.specs.Io.KnownBytes.{Appends}
-use Rattle.keel_machine.specs.declared.answers.OpenRefusal.{OpenRefusal}
-use Rattle.keel_machine.specs.declared.answers.OpenRefusal.TheVariants as refusal
+use Rattle.keel_base.specs.declared.listing.Entry.{Entry}
+use Rattle.keel_base.specs.declared.op.Batch.{Batch}
+use Rattle.keel_disk.specs.declared.error.DiskError.{DiskError}
+use Rattle.keel_disk.specs.declared.error.DiskError.TheVariants as disk
+use Rattle.keel_reading.specs.declared.refusal.OpenRefusal.{OpenRefusal}
+use Rattle.keel_reading.specs.declared.refusal.OpenRefusal.TheVariants as refusal
+use Rattle.keel_reading.specs.declared.replay.Found.{Found}
 use Rattle.keel_machine.specs.declared.answers.Got.{Got}
 use Rattle.keel_machine.specs.declared.answers.Got.TheVariants as got
-use Rattle.keel_machine.specs.States.{State, Seen, Unopened}
-use Rattle.keel_machine.specs.Turns.{Turn, Opening, Getting}
-use Rattle.keel_core.specs.Views.{no_story}
-use Rattle.keel_cli.specs.declared.command.Command.{Command}
-use Rattle.keel_cli.specs.declared.command.Command.TheVariants.{Open, Put, Get}
-use Rattle.keel_cli.specs.declared.reply.Reply.{Reply}
-use Rattle.keel_cli.specs.declared.reply.Reply.TheVariants as reply
-use Rattle.keel_cli.specs.Grammar.{AreCommands}
+use Rattle.keel_machine.specs.Opening.{point_found}
+use Rattle.keel_machine.specs.States.{State, Seen, Footing, Unopened, new_story}
+use Rattle.keel_machine.specs.Turns.{Turn, Opening, Getting, Listing, Crashing}
 use Rattle.keel_recovery.specs.Machine.{is_open}
-use Rattle.keel_cli.specs.Puts.{put_batch, PutRun, PutCut}
-use Rattle.keel_cli.specs.Replies.{text}
+use Rattle.keel_script.specs.declared.command.Command.{Command}
+use Rattle.keel_script.specs.declared.command.Command.TheVariants.{SetOption, Open, Put, Del, Drain, Tick, Get, Files, Crash}
+use Rattle.keel_script.specs.declared.option_name.OptionName.{OptionName}
+use Rattle.keel_script.specs.declared.reply.Reply.{Reply}
+use Rattle.keel_script.specs.declared.reply.Reply.TheVariants as reply
+use Rattle.keel_script.specs.Options.{range_of}
+use Rattle.keel_settings.specs.Values.{IsWithin, SetsOne}
+use Rattle.keel_cli.specs.Drains.{DrainRun, DrainCut}
+use Rattle.keel_cli.specs.Puts.{put_batch, del_batch, PutRun, PutCut}
+use Rattle.keel_cli.specs.Sessions.{Session, with_store}
 
--- the reply that prints an answer; want of memory has none
-abbrev pub opening_replies : Result ℕ OpenRefusal → Option (List Reply)
-opening_replies (Ok sequence) = Some (reply.Opened sequence ∷ [])
+-- ---- replies to calls
+
+-- the reply that prints an opening; want of memory has none
+abbrev pub opening_replies : Result Found OpenRefusal → Option (List Reply)
+opening_replies (Ok found) = Some (reply.Opened found.last_seq ∷ [])
 opening_replies (Err (refusal.Device fault)) = Some (reply.RefusedDevice fault ∷ [])
 opening_replies (Err (refusal.NoCurrent file)) = Some (reply.RefusedNoCurrent file ∷ [])
+opening_replies (Err (refusal.BadLog log at)) = Some (reply.RefusedBadLog log at ∷ [])
+opening_replies (Err (refusal.LogGap log expected found)) = Some (reply.RefusedLogGap log expected found ∷ [])
 opening_replies (Err refusal.OutOfMemory) = None
 
 abbrev pub reading_replies : Got → Option (List Reply)
@@ -31,9 +41,25 @@ reading_replies (got.Value value) = Some (reply.Value value ∷ [])
 reading_replies got.Absent = Some (reply.Absent ∷ [])
 reading_replies got.OutOfMemory = None
 
+-- a line for each file, and their number
+abbrev pub file_replies : List Entry → List Reply
+file_replies listing = map (λ (entry : Entry). reply.FileLine entry.name entry.size) listing ++ reply.Files (length listing) ∷ []
+
+abbrev pub listing_replies : Result (List Entry) DiskError → Option (List Reply)
+listing_replies (Ok listing) = Some (file_replies listing)
+listing_replies (Err (disk.Fault fault)) = Some (reply.ReadFault fault ∷ [])
+listing_replies (Err disk.OutOfMemory) = None
+
+-- ---- commands on the store
+
+-- no call was made, and that is the reply
+pub record Rests {S : Type 0} (old : S) (reply : Reply) (replies : List Reply) (new : S) : Type 0 where
+  pub same : new ≡ old
+  pub prints : replies ≡ reply ∷ []
+
 -- an opening with these replies
 pub record OpenRun (old : State) (replies : List Reply) (new : State) : Type 0 where
-  pub answer : Result ℕ OpenRefusal
+  pub answer : Result Found OpenRefusal
   pub turn : Turn old (Opening answer) new
   pub prints : opening_replies answer ≡ Some replies
 
@@ -43,56 +69,114 @@ pub record GetRun (old : State) (key : List ℕ) (replies : List Reply) (new : S
   pub turn : Turn old (Getting key answer) new
   pub prints : reading_replies answer ≡ Some replies
 
--- no call was made, and that is the reply
-pub record Rests (old : State) (reply : Reply) (replies : List Reply) (new : State) : Type 0 where
-  pub same : new ≡ old
-  pub prints : replies ≡ reply ∷ []
+-- a listing with these replies
+pub record ListRun (old : State) (replies : List Reply) (new : State) : Type 0 where
+  pub answer : Result (List Entry) DiskError
+  pub turn : Turn old (Listing answer) new
+  pub prints : listing_replies answer ≡ Some replies
 
--- Where a store is open or none is, the command may make these calls, be answered by these replies, and leave that state.
-abbrev pub CarriesWhere : Bool → State → Command → List Reply → State → Type 0
-CarriesWhere true old Open replies new = Rests old reply.IsOpen replies new
-CarriesWhere true old (Put key value sync) replies new = PutRun old (put_batch key value sync) replies new
-CarriesWhere true old (Get key) replies new = GetRun old key replies new
-CarriesWhere false old Open replies new = OpenRun old replies new
-CarriesWhere false old (Put key value sync) replies new = Rests old reply.NotOpen replies new
-CarriesWhere false old (Get key) replies new = Rests old reply.NotOpen replies new
+-- the device crashes, where that can be had of it
+abbrev pub CrashRun : Bool → State → List Reply → State → Type 0
+CrashRun true old replies new = (kept : Option ℕ) × Turn old (Crashing kept) new × (replies ≡ reply.Crashed ∷ [])
+CrashRun false old replies new = Rests old reply.NotSimulated replies new
 
-abbrev pub Carries : State → Command → List Reply → State → Type 0
-Carries old command replies new = CarriesWhere (is_open old.mode) old command replies new
+-- The reply to a command that makes no call, by whether a store is open. Commands that aren't built yet make none.
+abbrev pub rest_reply : Bool → Command → Option Reply
+rest_reply true Open = Some reply.IsOpen
+rest_reply false Open = None
+rest_reply true (Put key value sync) = None
+rest_reply false (Put key value sync) = Some reply.NotOpen
+rest_reply true (Del key sync) = None
+rest_reply false (Del key sync) = Some reply.NotOpen
+rest_reply true (Get key) = None
+rest_reply false (Get key) = Some reply.NotOpen
+rest_reply true (Drain moves) = None
+rest_reply false (Drain moves) = Some reply.NotOpen
+rest_reply is_one_open Files = None
+rest_reply is_one_open (Crash dirops keep garbage seed) = None
+rest_reply is_one_open command = Some reply.NotBuilt
 
--- Memory ended at a call of the command, behind a first part of its calls.
-abbrev pub PartlyWhere : Bool → State → Command → State → Type 0
-PartlyWhere true old (Put key value sync) new = PutCut old (put_batch key value sync) new
-PartlyWhere true old (Get key) new = Turn old (Getting key got.OutOfMemory) new
-PartlyWhere false old Open new = Turn old (Opening (Err refusal.OutOfMemory)) new
-PartlyWhere _ old _ new = ⊥
+-- the calls that a command may make, the replies that then answer it, and the state that it leaves
+abbrev pub Calls : State → Command → List Reply → State → Type 0
+Calls old Open replies new = OpenRun old replies new
+Calls old (Put key value sync) replies new = PutRun old (put_batch key value sync) replies new
+Calls old (Del key sync) replies new = PutRun old (del_batch key sync) replies new
+Calls old (Get key) replies new = GetRun old key replies new
+Calls old (Drain moves) replies new = DrainRun moves old replies new
+Calls old Files replies new = ListRun old replies new
+Calls old (Crash dirops keep garbage seed) replies new = CrashRun old.device.simulated old replies new
+Calls old command replies new = ⊥
 
+-- a command is answered without a call, or by its calls
+abbrev pub RestsOrCalls : Option Reply → State → Command → List Reply → State → Type 0
+RestsOrCalls (Some reply) old command replies new = Rests old reply replies new
+RestsOrCalls None old command replies new = Calls old command replies new
+
+abbrev pub CarriesOnStore : State → Command → List Reply → State → Type 0
+CarriesOnStore old command replies new = RestsOrCalls (rest_reply (is_open old.mode) command) old command replies new
+
+-- ---- commands on the driver's own values
+
+-- an option is set for the next opening, within its range
+pub record IsSet (old : Session) (name : OptionName) (value : ℕ) (replies : List Reply) (new : Session) : Type 0 where
+  pub within : IsWithin name value
+  pub sets : SetsOne name value old.options new.options
+  pub rest : new ≡ record old { options = new.options }
+  pub prints : replies ≡ reply.OptionSet name value ∷ []
+
+-- a value out of the range changes nothing
+pub record IsOutOfRange (old : Session) (name : OptionName) (value : ℕ) (replies : List Reply) (new : Session) : Type 0 where
+  pub out : ¬ IsWithin name value
+  pub rests : Rests old (reply.BadOption name (range_of name).least (range_of name).greatest) replies new
+
+abbrev pub SetRun : Bool → Session → OptionName → ℕ → List Reply → Session → Type 0
+SetRun true old name value replies new = Rests old reply.IsOpen replies new
+SetRun false old name value replies new = IsSet old name value replies new ⊎ IsOutOfRange old name value replies new
+
+-- the last tick that there is
+abbrev pub last_tick : ℕ
+last_tick = 2 ^ 64 - 1
+
+-- so many ticks pass, and the last one stays
+pub record TickRun (old : Session) (ticks : ℕ) (replies : List Reply) (new : Session) : Type 0 where
+  pub passes : new ≡ record old { tick = min (old.tick + ticks) last_tick }
+  pub prints : replies ≡ reply.Now (min (old.tick + ticks) last_tick) ∷ []
+
+-- ---- commands
+
+-- the store goes on by the command, and nothing else changes
+pub record StoreRun (old : Session) (command : Command) (replies : List Reply) (new : Session) : Type 0 where
+  pub carries : CarriesOnStore old.store command replies new.store
+  pub rest : new ≡ with_store new.store old
+
+-- a command on the store, and not on the driver's own values
+abbrev pub IsOnStore : Command → Type 0
+IsOnStore (SetOption name value) = ⊥
+IsOnStore (Tick ticks) = ⊥
+IsOnStore command = Unit {0}
+
+-- the command may be carried out with these replies, and leave that session
+abbrev pub Carries : Session → Command → List Reply → Session → Type 0
+Carries old (SetOption name value) replies new = SetRun (is_open old.store.mode) old name value replies new
+Carries old (Tick ticks) replies new = TickRun old ticks replies new
+Carries old command replies new = StoreRun old command replies new
+
+-- memory ended at a call of the command, behind a first part of its calls
+abbrev pub CallsPartly : State → Command → State → Type 0
+CallsPartly old Open new = Turn old (Opening (Err refusal.OutOfMemory)) new
+CallsPartly old (Put key value sync) new = PutCut old (put_batch key value sync) new
+CallsPartly old (Del key sync) new = PutCut old (del_batch key sync) new
+CallsPartly old (Get key) new = Turn old (Getting key got.OutOfMemory) new
+CallsPartly old (Drain moves) new = DrainCut moves old new
+CallsPartly old Files new = Turn old (Listing (Err disk.OutOfMemory)) new
+CallsPartly old command new = ⊥
+
+-- where it makes calls
 abbrev pub Partly : State → Command → State → Type 0
-Partly old command new = PartlyWhere (is_open old.mode) old command new
+Partly old command new = (rest_reply (is_open old.mode) command ≡ None) × CallsPartly old command new
 
 -- one command after another
-abbrev pub Run : State → List Command → List Reply → State → Type 0
+abbrev pub Run : Session → List Command → List Reply → Session → Type 0
 Run old [] replies new = (new ≡ old) × (replies ≡ [])
 Run old (command ∷ commands) replies new =
-    (mid : State) × (first : List Reply) × (rest : List Reply) × Carries old command first mid × Run mid commands rest new × (replies ≡ first ++ rest)
-
--- no store was opened yet on a device that shows this
-abbrev pub unopened : Seen → State
-unopened device = record {
-  device = device;
-  mode = Unopened;
-  story = no_story;
-  log = None;
-  writing = record { waiting = []; outcomes = []; last_ticket = 0 };
-  failing = record { failures = [] };
-  jobs = record { write = record { number = 0; running = None } };
-  numbers = record { next_file = 1 };
-}
-
--- These lines were carried out: they are commands, the machine went on by them, and what is held grew by their replies.
-pub record Progress (old : State) (held : Option (List ℕ)) (lines : List (List ℕ)) (new : State) (holds : Option (List ℕ)) : Type 0 where
-  pub commands : List Command
-  pub replies : List Reply
-  pub read : AreCommands lines commands
-  pub run : Run old commands replies new
-  pub written : Appends held holds (text replies)
+    (mid : Session) × (first : List Reply) × (rest : List Reply) × Carries old command first mid × Run mid commands rest new × (replies ≡ first ++ rest)

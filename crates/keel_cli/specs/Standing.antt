@@ -1,9 +1,22 @@
 -- What the device stands for that a run hands back.
-use Rattle.std.specs.Prelude.{◌≡◌, true}
-use Rattle.keel_machine.specs.States.{State, Seen}
-use Rattle.keel_recovery.specs.Machine.{is_open, RestsIn, StandsIn}
+use Rattle.std.specs.Prelude.{◌≡◌, ◌≢◌, ℕ, ◌<◌, ◌-◌, ◌^◌, Option, Some, None}
+use Rattle.keel_disk.specs.Told.{Told}
+use Rattle.keel_machine.specs.States.{State, Footing, Known, Unopened}
+use Rattle.keel_recovery.specs.Machine.{StandsIn}
 
--- Where the device was at rest as it was handed in, and a store was opened, the one of the last state stands for its
--- story: after any crash, an opening finds the first of the logged writes, with every acknowledged synced one.
-abbrev pub Recovers : Seen → State → Type 0
-Recovers handed_in last = RestsIn handed_in.told → is_open last.mode ≡ true → StandsIn last.device.told last
+-- how many images a device has counted that were forged
+abbrev pub forged_of : Option Told → ℕ
+forged_of None = 0
+forged_of (Some told) = told.forged
+
+-- no crash of the run left a forged image; a count at its end would say nothing
+pub record NoneForged (before after : Option Told) : Type 0 where
+  pub counts : forged_of before < 2 ^ 64 - 1
+  pub same : forged_of after ≡ forged_of before
+
+-- A run on a known device on which no crash left a forged image ends on a known device. Where a store was opened, it
+-- stands for the story: after any further crash, an opening finds the first of the logged writes, with every
+-- acknowledged synced one.
+pub record Recovers (footing : Footing) (handed_in : Option Told) (last : State) : Type 0 where
+  pub known : footing ≡ Known → NoneForged handed_in last.device.told → last.footing ≡ Known
+  pub stands : last.footing ≡ Known → last.mode ≢ Unopened → StandsIn last.device.told last.story

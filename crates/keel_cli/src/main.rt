@@ -12,19 +12,20 @@
 //! It stands on `keel_core`, the store, and runs it over `keel_simdisk`, a device in memory.
 #![tactic(auto)]
 
-mod command;
+mod answer;
+mod draining;
+mod driver;
 mod lines;
 mod place;
 mod putting;
-mod reply;
 mod top;
 
-pub use command::{Command, LineError, read_command};
+pub use answer::{Answer, text_of};
+pub use driver::{Driven, Driver, carry_out};
 use keel_base::{ReadSource, WriteSink};
 use keel_simdisk::SimDisk;
 pub use lines::{LineDone, LineStop, LinesDone, StopPlace, carry_lines};
-pub use place::{Carried, Place, carry_out, finish};
-pub use reply::{Reply, print_line};
+pub use place::{Carried, Place, carry_on_store, finish};
 use std::process::ExitCode;
 use std::{env, io};
 pub use top::{End, Ended, Worked, run_words};

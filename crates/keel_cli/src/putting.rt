@@ -1,28 +1,38 @@
-// A put: it is admitted, and write steps are made until it has an outcome.
-ghost use Rattle.std.specs.Prelude.{◌≡◌, ◌⊎◌, [], ◌∷◌, IfOk, OnErr, IsTrue};
+// A write of one op: it is admitted, and write steps are made until it has an outcome.
+ghost use Rattle.std.specs.Prelude.{◌≡◌, ◌≢◌, ◌⊎◌, [], ◌∷◌, IfOk, OnErr, Some, length};
 ghost use Rattle.keel_machine.specs.States.{State};
-ghost use Rattle.keel_core.specs.Orders.{IsAdmissible};
+ghost use Rattle.keel_machine.specs.declared.answers.Admit.TheVariants.{BadSize};
+ghost use Rattle.keel_machine.specs.declared.answers.Part.TheVariants as part;
 ghost use Rattle.keel_core.specs.Views.{StandsFor};
-ghost use Rattle.keel_cli.specs.Grammar.{is_word};
 ghost use Rattle.keel_cli.specs.Places.{AreTold, CoreLeads};
-ghost use Rattle.keel_cli.specs.Puts.{put_batch as batch_of_put, PutRun, PutCut};
+ghost use Rattle.keel_cli.specs.Puts.{put_batch as batch_of_put, del_batch as batch_of_del, refusal_replies, PutRun, PutCut};
 
-use crate::Reply;
 use keel_base::{Batch, Bytes, Op, Ops, OutOfMemory};
 use keel_core::Core;
 use keel_disk::Device;
-use keel_machine::{Admit, Outcome, WriteStep};
+use keel_machine::{Admit, Outcome, Part, WriteStep};
+use keel_script::Reply;
 use std::alloc::Global;
 
-// The batch of one put.
-fn one_put(alloc: Global, key: &Bytes, value: &Bytes, sync: bool) -> Result<Batch, OutOfMemory>
-    ensures { IfOk result (λ batch. batch ≡ batch_of_put key.now value.now sync) }
+// The batch of one op.
+fn one_op(alloc: Global, op: Op, sync: bool) -> Result<Batch, OutOfMemory>
+    ensures { IfOk result (λ batch. batch ≡ record { ops = op ∷ []; sync = sync }) }
 {
-    let key = Bytes::from_slice(alloc, key.as_slice())?;
-    let value = Bytes::from_slice(alloc, value.as_slice())?;
     let mut ops = Ops::new(alloc);
-    ops.push(Op::Put { key, value })?;
+    ops.push(op)?;
     Ok(Batch { ops, sync })
+}
+
+// What a length outside its limits is answered. Of one op, it is that of the key or the value.
+fn size_reply(part: Part, length: u64) -> Reply
+    requires { part ≢ part.Batch }
+    ensures { refusal_replies (BadSize part length) ≡ Some (result ∷ []) }
+{
+    match part {
+        Part::Key => Reply::BadSizeKey { length },
+        Part::Value => Reply::BadSizeValue { length },
+        Part::Batch => unreachable!(),
+    }
 }
 
 // Admits a batch, and makes write steps until it has an outcome.
@@ -31,7 +41,7 @@ fn put_batch<V: Device>(
     core: &mut Core<V>,
     batch: Batch,
 ) -> Result<Reply, OutOfMemory>
-    requires admissible { IsAdmissible batch }
+    requires one { length batch.ops ≡ 1 }
     requires told { AreTold core.old.outcomes }
     ensures carried { (s : State) → StandsFor core.old s → IfOk result (λ reply. CoreLeads core.new (PutRun s batch (reply ∷ []))) }
     ensures cut { (s : State) → StandsFor core.old s → OnErr result (CoreLeads core.new (PutCut s batch)) }
@@ -39,6 +49,7 @@ fn put_batch<V: Device>(
 {
     let ticket = match core.admit(batch) {
         Admit::Queued { ticket } => ticket,
+        Admit::BadSize { part, length } => return Ok(size_reply(part, length)),
         Admit::Stopped(failure) => return Ok(Reply::Stopped(failure)),
         Admit::Spent(counter) => return Ok(Reply::Spent(counter)),
         Admit::QueueFull { waiting } => return Ok(Reply::QueueFull { waiting }),
@@ -47,7 +58,7 @@ fn put_batch<V: Device>(
     'writing: loop {
         match core.take_outcome(ticket) {
             Outcome::Waiting => {}
-            Outcome::Done { seq } => return Ok(Reply::Done { seq }),
+            Outcome::Done { seq } => return Ok(Reply::PutOk { seq }),
             Outcome::Failed(failure) => return Ok(Reply::Failed(failure)),
             Outcome::Turned(failure) => return Ok(Reply::Stopped(failure)),
             Outcome::Unknown => unreachable!(),
@@ -73,8 +84,6 @@ pub(crate) fn put_pair<V: Device>(
     value: &Bytes,
     sync: bool,
 ) -> Result<Reply, OutOfMemory>
-    requires key { IsTrue (is_word key.now) }
-    requires value { IsTrue (is_word value.now) }
     requires told { AreTold core.old.outcomes }
     ensures carried { (s : State) → StandsFor core.old s → IfOk result (λ reply.
         CoreLeads core.new (PutRun s (batch_of_put key.now value.now sync) (reply ∷ []))) }
@@ -82,6 +91,27 @@ pub(crate) fn put_pair<V: Device>(
         CoreLeads core.new (λ new. (new ≡ s) ⊎ PutCut s (batch_of_put key.now value.now sync) new)) }
     ensures told { AreTold core.new.outcomes }
 {
-    let batch = one_put(alloc, key, value, sync)?;
+    let key = Bytes::from_slice(alloc, key.as_slice())?;
+    let value = Bytes::from_slice(alloc, value.as_slice())?;
+    let batch = one_op(alloc, Op::Put { key, value }, sync)?;
+    put_batch(alloc, core, batch)
+}
+
+/// Deletes a key, and says what became of it.
+pub(crate) fn delete_key<V: Device>(
+    alloc: Global,
+    core: &mut Core<V>,
+    key: &Bytes,
+    sync: bool,
+) -> Result<Reply, OutOfMemory>
+    requires told { AreTold core.old.outcomes }
+    ensures carried { (s : State) → StandsFor core.old s → IfOk result (λ reply.
+        CoreLeads core.new (PutRun s (batch_of_del key.now sync) (reply ∷ []))) }
+    ensures cut { (s : State) → StandsFor core.old s → OnErr result (
+        CoreLeads core.new (λ new. (new ≡ s) ⊎ PutCut s (batch_of_del key.now sync) new)) }
+    ensures told { AreTold core.new.outcomes }
+{
+    let key = Bytes::from_slice(alloc, key.as_slice())?;
+    let batch = one_op(alloc, Op::Del { key }, sync)?;
     put_batch(alloc, core, batch)
 }

@@ -1,8 +1,8 @@
 // The top call: a workload is read, carried out and answered.
-ghost use Rattle.std.specs.Prelude.{◌≡◌, ◌↔◌, IfOk, IsTrue, map};
+ghost use Rattle.std.specs.Prelude.{◌≡◌, ◌⊎◌, ◌↔◌, IfOk, IsTrue, map};
 ghost use Rattle.std.specs.String.{string_bytes};
 ghost use Rattle.keel_cli.specs.declared.top.End.{End};
-ghost use Rattle.keel_cli.specs.Ends.{Ends, NamesNoLine, StaysOrRunsOut, end_of, outside, message_of, status_of, Tells};
+ghost use Rattle.keel_cli.specs.Ends.{Ends, NamesNoLine, StaysOrRunsOut, end_of, named, outside, message_of, status_of, Tells};
 ghost use Rattle.keel_cli.specs.Places.{shown_by};
 ghost use Rattle.keel_cli.specs.Words.{AskForRun};
 
@@ -17,6 +17,7 @@ pub enum End {
     Completed,
     Usage,
     NotACommand { line: u64 },
+    LongLine { line: u64 },
     LongInput,
     ReadFault,
     WriteFault,
@@ -58,6 +59,7 @@ fn end_of(stop: Option<StopPlace>) -> End
         None => End::Completed,
         Some(StopPlace { stop, line }) => match stop {
             LineStop::Refused => End::NotACommand { line },
+            LineStop::TooLong => End::LongLine { line },
             LineStop::Unwritten => End::WriteFault,
             LineStop::NoMemory => End::OutOfMemory,
         },
@@ -74,8 +76,8 @@ fn work<S: Source, K: Sink, V: Device>(
 ) -> Worked<V>
     ensures usage { (result.end ≡ End.Usage) ↔ ¬ AskForRun (map string_bytes words.now.items) }
     ensures ends { Ends result.end
-        (outside (S.remaining source.old) (S.faults source.old) (K.held out.old) (K.faults out.old) (shown_by V.told V.changes V.faults V.last_fault device))
-        (outside (S.remaining source.new) (S.faults source.new) (K.held out.new) (K.faults out.new) (shown_by V.told V.changes V.faults V.last_fault result.device)) }
+        (outside (S.remaining source.old) (S.faults source.old) (K.held out.old) (K.faults out.old) (shown_by V.told V.changes V.faults V.last_fault V.is_simulated device))
+        (outside (S.remaining source.new) (S.faults source.new) (K.held out.new) (K.faults out.new) (shown_by V.told V.changes V.faults V.last_fault V.is_simulated result.device)) }
 {
     if !ask_for_run(words) {
         return Worked {
@@ -106,13 +108,14 @@ fn work<S: Source, K: Sink, V: Device>(
     }
 }
 
-fn refusal_text(alloc: Global, line: u64) -> Result<Vec<u8>, OutOfMemory>
-    ensures { IfOk result (λ text. text.items ≡ message_of (End.NotACommand line)) }
+// The text of an end that names a line.
+fn named_text(alloc: Global, line: u64, what: &[u8]) -> Result<Vec<u8>, OutOfMemory>
+    ensures { IfOk result (λ text. text.items ≡ named line what.now) }
 {
     let digits = line.to_string(alloc)?;
     let mut text = Vec::from_slice(alloc, b"line ")?;
     text.extend_from_slice(digits.as_bytes())?;
-    text.extend_from_slice(b": not a command\n")?;
+    text.extend_from_slice(what)?;
     Ok(text)
 }
 
@@ -126,11 +129,29 @@ fn plain_text(end: End) -> &'static [u8]
         End::Usage => {
             b"usage: keel run, dir PATH, gen SEED COUNT, check, threads CLIENTS OPS SEED\n"
         }
-        End::NotACommand { .. } => unreachable!(),
+        End::NotACommand { .. } | End::LongLine { .. } => unreachable!(),
         End::LongInput => b"input longer than 67108864 bytes\n",
         End::ReadFault => b"read fault\n",
         End::WriteFault => b"write fault\n",
         End::OutOfMemory => b"out of memory\n",
+    }
+}
+
+// Writes a text that names a line. Where there is no memory for it, that is the end.
+fn tell_line<E: Sink>(alloc: Global, err: &mut E, end: End, line: u64, what: &[u8]) -> End
+    requires { message_of end ≡ named line what.now }
+    ensures told { Tells (message_of result) (E.held err.old) (E.faults err.old) (E.held err.new) (E.faults err.new) }
+    ensures end { (result ≡ end) ⊎ (result ≡ End.OutOfMemory) }
+{
+    match named_text(alloc, line, what) {
+        Ok(text) => {
+            let _ = give_all(err, &text);
+            end
+        }
+        Err(_) => {
+            let _ = give_all(err, plain_text(End::OutOfMemory));
+            End::OutOfMemory
+        }
     }
 }
 
@@ -140,16 +161,8 @@ fn tell<E: Sink>(alloc: Global, err: &mut E, end: End) -> End
     ensures end { StaysOrRunsOut end result }
 {
     match end {
-        End::NotACommand { line } => match refusal_text(alloc, line) {
-            Ok(text) => {
-                let _ = give_all(err, &text);
-                end
-            }
-            Err(_) => {
-                let _ = give_all(err, plain_text(End::OutOfMemory));
-                End::OutOfMemory
-            }
-        },
+        End::NotACommand { line } => tell_line(alloc, err, end, line, b": not a command\n"),
+        End::LongLine { line } => tell_line(alloc, err, end, line, b": longer than 8192 bytes\n"),
         _ => {
             let _ = give_all(err, plain_text(end));
             end
@@ -163,7 +176,7 @@ fn status_of(end: End) -> u8
     match end {
         End::Completed => 0,
         End::Usage => 2,
-        End::NotACommand { .. } | End::LongInput => 3,
+        End::NotACommand { .. } | End::LongLine { .. } | End::LongInput => 3,
         End::ReadFault => 4,
         End::WriteFault => 5,
         End::OutOfMemory => 6,
@@ -182,8 +195,8 @@ pub fn run_words<S: Source, K: Sink, E: Sink, V: Device>(
     // The status says how the run ended, what was done is what that end says, and err has its text.
     ensures ends { (end : End) × (result.status ≡ status_of end)
         × Ends end
-        (outside (S.remaining source) (S.faults source) (K.held out) (K.faults out) (shown_by V.told V.changes V.faults V.last_fault device))
-        (outside (S.remaining result.source) (S.faults result.source) (K.held result.out) (K.faults result.out) (shown_by V.told V.changes V.faults V.last_fault result.device))
+        (outside (S.remaining source) (S.faults source) (K.held out) (K.faults out) (shown_by V.told V.changes V.faults V.last_fault V.is_simulated device))
+        (outside (S.remaining result.source) (S.faults result.source) (K.held result.out) (K.faults result.out) (shown_by V.told V.changes V.faults V.last_fault V.is_simulated result.device))
         × Tells (message_of end) (E.held err) (E.faults err) (E.held result.err) (E.faults result.err) }
     ensures usage { (result.status ≡ 2) ↔ ¬ AskForRun (map string_bytes words.now.items) }
 {

@@ -1,0 +1,28 @@
+-- Where memory ended at a command, and what a command that was carried out leaves.
+use Rattle.std.specs.Prelude.{◌≡◌, ◌⊎◌, Bool, List, Result, Ok, Err}
+use Rattle.keel_machine.specs.States.{State, Seen}
+use Rattle.keel_script.specs.declared.command.Command.{Command}
+use Rattle.keel_script.specs.declared.reply.Reply.{Reply}
+use Rattle.keel_cli.specs.declared.answer.Answer.{Answer}
+use Rattle.keel_cli.specs.declared.place.Place.{Place}
+use Rattle.keel_cli.specs.Places.{Leads, Leaves}
+use Rattle.keel_cli.specs.Replies.{replies_of}
+use Rattle.keel_cli.specs.Runs.{CarriesOnStore, Partly, Carries}
+use Rattle.keel_cli.specs.Sessions.{Session, with_store}
+
+-- Memory ended before the command, at a call of it, or behind it where its replies were to be printed.
+abbrev pub StoreCutShort : State → Command → State → Type 0
+StoreCutShort old command new = (new ≡ old) ⊎ (((replies : List Reply) × CarriesOnStore old command replies new) ⊎ Partly old command new)
+
+-- the same of a session
+pub record StoreCut (old : Session) (command : Command) (new : Session) : Type 0 where
+  pub cut : StoreCutShort old.store command new.store
+  pub rest : new ≡ with_store new.store old
+
+abbrev pub CutShort : Session → Command → Session → Type 0
+CutShort old command new = StoreCut old command new ⊎ ((replies : List Reply) × Carries old command replies new)
+
+-- A command was carried out on a store in this state, or memory ended at it.
+abbrev pub CarriedOut : {V E : Type 0} → (V → Seen) → State → Command → Place V → Result Answer E → Type 0
+CarriedOut shown s command place (Ok answer) = Leads shown place (CarriesOnStore s command (replies_of answer))
+CarriedOut shown s command place (Err e) = Leaves shown place (StoreCutShort s command)

@@ -1,0 +1,42 @@
+-- What a driver has between two commands.
+use Rattle.std.specs.Prelude.{◌≡◌, ℕ, None, [], Option, List}
+use Rattle.keel_base.specs.declared.options.Options.{Options}
+use Rattle.keel_base.specs.Points.{origin}
+use Rattle.keel_disk.specs.Told.{Told}
+use Rattle.keel_machine.specs.States.{State, Seen, Footing, Known, Unknown, Unopened, new_story}
+use Rattle.keel_recovery.specs.Machine.{RestsIn}
+use Rattle.keel_settings.specs.Values.{AreDefaults}
+
+-- its store as the machine has it, the options for the next opening, and the tick
+pub record Session : Type 0 where
+  pub store : State
+  pub options : Options
+  pub tick : ℕ
+
+abbrev pub with_store : State → Session → Session
+with_store store session = record session { store = store }
+
+-- no store was opened yet on a device that shows this
+abbrev pub unopened : Footing → Seen → State
+unopened footing device = record {
+  device = device;
+  footing = footing;
+  mode = Unopened;
+  story = new_story origin;
+  log = None;
+  writing = record { waiting = []; outcomes = []; last_ticket = 0 };
+  failing = record { failures = [] };
+  jobs = record { write = record { number = 0; running = None } };
+  numbers = record { next_file = 1 };
+}
+
+-- a run begins so: no store, each option with its default, and tick 0
+pub record Begins (footing : Footing) (device : Seen) (session : Session) : Type 0 where
+  pub store : session.store ≡ unopened footing device
+  pub options : AreDefaults session.options
+  pub tick : session.tick ≡ 0
+
+-- A run may count on a device that tells its state and is at rest, and on any other it counts on nothing.
+abbrev pub MayBegin : Footing → Option Told → Type 0
+MayBegin Known told = RestsIn told
+MayBegin Unknown told = Unit {0}
