@@ -1,19 +1,24 @@
--- A batch that is queued, an outcome that is taken, and a store that is opened.
-use Rattle.std.proofs.Common.{◌≡◌, ℕ, ◌+◌, ◌*◌, ◌<◌, ◌≤◌, ◌^◌, ◌||◌, ◌==◌, not, Bool, true, false, List, [], ◌∷◌, ◌++◌, length, map, filter, find, cond, Option, Some, None, Ok, option_map, unwrap_or, option_to_list, is_some, nat_lt, nat_le, refl, sym, ap, subst, ◌∙◌, arith, if◌then◌else◌}
+-- A batch that is queued, an outcome that is taken, and files that are listed.
+use Rattle.std.proofs.Common.{◌≡◌, ℕ, ◌+◌, ◌*◌, ◌<◌, ◌≤◌, ◌^◌, ◌||◌, ◌==◌, not, Bool, true, false, List, [], ◌∷◌, ◌++◌, length, map, filter, find, cond, Option, Some, None, Result, Ok, Err, IfOk, OnOk, is_err, option_map, unwrap_or, option_to_list, is_some, nat_lt, nat_le, refl, sym, ap, subst, ◌∙◌, arith, if◌then◌else◌}
 use Rattle.std.proofs.lemmas.Bool.{ltb-true, leb-true}
 use Rattle.std.specs.List.{AllByRecursion, list_any}
-use Rattle.keel_base.specs.Points.{origin}
+use Rattle.keel_base.specs.declared.listing.Entry.{Entry}
 use Rattle.keel_base.specs.declared.failure.Failure.{Failure}
 use Rattle.keel_base.specs.declared.op.Batch.{Batch}
+use Rattle.keel_disk.specs.declared.error.DiskError.{DiskError}
+use Rattle.keel_disk.specs.Counts.{disk_fault}
+use Rattle.keel_disk.specs.Listings.{IsListing}
+use Rattle.keel_disk.specs.Told.{TellsListing}
 use Rattle.keel_machine.specs.declared.answers.Admit.{Admit}
 use Rattle.keel_machine.specs.declared.answers.Admit.TheVariants.{Queued, Stopped}
 use Rattle.keel_machine.specs.declared.answers.Outcome.{Outcome}
 use Rattle.keel_machine.specs.declared.answers.Outcome.TheVariants as outcome
-use Rattle.keel_machine.specs.Admission.{ops_of, count_ops, standing_of, batches_of_group, tickets_of_group, seq_with, outcome_kept}
+use Rattle.keel_machine.specs.Admission.{ops_of, count_ops, standing_of, batches_of_group, tickets_of_group, seq_with, size_refusal, outcome_kept}
 use Rattle.keel_machine.specs.States as machine
-use Rattle.keel_machine.specs.States.{State, Seen, Story, point_of}
+use Rattle.keel_machine.specs.States.{State, Seen, Story, Footing, point_of}
 use Rattle.keel_machine.specs.Tests.{first_some, when}
-use Rattle.keel_machine.specs.Turns.{Event, Answers, after, Admitting, Opening, TakingOutcome}
+use Rattle.keel_machine.specs.Outside.{IsQuiet}
+use Rattle.keel_machine.specs.Turns.{Event, Answers, after, Admitting, Listing, TakingOutcome}
 use Rattle.keel_core.specs.declared.log.OwnLog.{OwnLog}
 use Rattle.keel_core.specs.declared.log.OwnLog.TheVariants.{Absent, Created, Ready}
 use Rattle.keel_core.specs.declared.queue.Ticketed.{Ticketed}
@@ -21,19 +26,27 @@ use Rattle.keel_core.specs.declared.queue.Group.{Group}
 use Rattle.keel_core.specs.Optional.{ops_in}
 use Rattle.keel_core.specs.Orders.{IsSettled, group_batch}
 use Rattle.keel_core.specs.Queues.{on_its_way, outcome_told}
-use Rattle.keel_core.specs.Trails.{no_trail}
 use Rattle.keel_core.specs.Views.{CoreView, StandsFor, Fits, Turns, state_of, point_in, group_of, waiting_of, left_of, calls_in}
 
 -- It is enough to show it of the state that a story and failures make.
 pub turns_by_story : (old new : CoreView) (event : Event)
-    → ((story : Story) (failures : List Failure) → Fits (point_in old) old.trail story → old.standing ≡ standing_of failures
-    → Answers (state_of old story failures) event new.device × StandsFor new (after (state_of old story failures) event new.device))
+    → ((footing : Footing) (story : Story) (failures : List Failure) → Fits (point_in old) old.trail story → old.standing ≡ standing_of failures
+    → Answers (state_of old footing story failures) event new.device × StandsFor new (after (state_of old footing story failures) event new.device))
     → Turns old event new
 turns_by_story old new event shown = record {
   goes = λ s stands.
       subst (λ (t : State). Answers t event new.device × StandsFor new (after t event new.device)) (sym stands.state_is)
-      (shown stands.story stands.failures stands.fits stands.standing);
+      (shown stands.footing stands.story stands.failures stands.fits stands.standing);
 }
+
+-- ---- the files are listed
+
+pub listed_goes : (view : CoreView) (device : Seen) (answer : Result (List Entry) DiskError) → IfOk answer (TellsListing view.device.told) → IfOk answer IsListing
+    → IsQuiet view.device (disk_fault answer) device → Turns view (Listing answer) (record view { device = device })
+listed_goes view device answer tells order quiet = turns_by_story view (record view { device = device }) (Listing answer) (λ footing story failures fits stands. (
+  record { tells = tells; order = order; quiet = quiet },
+  record { footing = footing; story = story; failures = failures; state_is = refl; fits = fits; standing = stands },
+))
 
 -- ---- a batch is queued
 
@@ -47,9 +60,9 @@ group_count : (stage : OwnLog) (group : Option Group) → count_ops (ops_of (bat
 group_count stage None = refl
 group_count stage (Some group) = batch_count group.batch
 
-none_first : (standing : Option Failure) (a b c : Bool) (x y z : Admit) → standing ≡ None → a ≡ false → b ≡ false → c ≡ false
-    → first_some (option_map Stopped standing ∷ when a x ∷ when b y ∷ when c z ∷ []) ≡ None
-none_first standing a b c x y z p q r s = λ i. first_some (option_map Stopped (p i) ∷ when (q i) x ∷ when (r i) y ∷ when (s i) z ∷ [])
+none_first : (size : Option Admit) (standing : Option Failure) (a b c : Bool) (x y z : Admit) → size ≡ None → standing ≡ None → a ≡ false → b ≡ false → c ≡ false
+    → first_some (size ∷ option_map Stopped standing ∷ when a x ∷ when b y ∷ when c z ∷ []) ≡ None
+none_first size standing a b c x y z o p q r s = λ i. first_some (o i ∷ option_map Stopped (p i) ∷ when (q i) x ∷ when (r i) y ∷ when (s i) z ∷ [])
 
 not_lt : (a b : ℕ) → b ≤ a → nat_lt a b ≡ false
 not_lt a b h =
@@ -62,33 +75,34 @@ not_le a b h =
 sums : (a b c d e f g h i : ℕ) → a ≡ b → c ≡ a + d → d ≡ e → f ≡ g → c + f + h ≤ i → b + (e + g + 0) + h ≤ i
 sums a b c d e f g h i p q r s t = omega arith
 
-pub queued_goes : (view : CoreView) (batch : Batch) (last_seq handed_seq : ℕ) → view.standing ≡ None → view.waiting ≡ None
+pub queued_goes : (view : CoreView) (batch : Batch) (last_seq handed_seq : ℕ) → size_refusal batch ≡ None → view.standing ≡ None → view.waiting ≡ None
     → last_seq ≡ (point_in view).seq → handed_seq ≡ last_seq + count_ops (ops_of view.trail.limbo)
     → handed_seq + ops_in (group_batch view.group) + length batch.ops ≤ 2 ^ 56 → view.last_ticket < 2 ^ 56
     → Turns view (Admitting batch (Queued (view.last_ticket + 1)))
     (record view { waiting = Some (record { ticket = view.last_ticket + 1; batch = batch }); last_ticket = view.last_ticket + 1 })
-queued_goes view batch last_seq handed_seq none waits last handed enough ticket =
+queued_goes view batch last_seq handed_seq sized none waits last handed enough ticket =
     turns_by_story view (record view { waiting = Some (record { ticket = view.last_ticket + 1; batch = batch }); last_ticket = view.last_ticket + 1 })
     (Admitting batch (Queued (view.last_ticket + 1)))
-    (λ story failures fits stands.
-    let seq : seq_with (state_of view story failures) batch ≤ 2 ^ 56 =
-    subst (λ (w : Option Ticketed). seq_with (state_of (record view { waiting = w }) story failures) batch ≤ 2 ^ 56) (sym waits)
+    (λ footing story failures fits stands.
+    let seq : seq_with (state_of view footing story failures) batch ≤ 2 ^ 56 =
+    subst (λ (w : Option Ticketed). seq_with (state_of (record view { waiting = w }) footing story failures) batch ≤ 2 ^ 56) (sym waits)
     (sums last_seq (point_of story).seq handed_seq (count_ops (ops_of view.trail.limbo)) (count_ops story.limbo) (ops_in (group_batch view.group))
     (count_ops (ops_of (batches_of_group (group_of view.stage view.group)))) (length batch.ops) (2 ^ 56)
     (last ∙ ap (λ p. p.seq) fits.point_is) handed (ap count_ops (sym fits.limbo_is)) (sym (group_count view.stage view.group)) enough) in
     let few : length (waiting_of view.waiting) ≡ 0 = ap (λ (w : Option Ticketed). length (waiting_of w)) waits in (
       (
         (
-          none_first (standing_of failures) _ _ _ _ _ _ (sym stands ∙ none) (not_lt (2 ^ 56) _ seq) (not_le (2 ^ 56) view.last_ticket ticket)
+          none_first (size_refusal batch) (standing_of failures) _ _ _ _ _ _ sized (sym stands ∙ none) (not_lt (2 ^ 56) _ seq) (not_le (2 ^ 56) view.last_ticket ticket)
               (not_le 1 (length (waiting_of view.waiting)) (omega (arith, few))),
           refl,
         ),
         refl,
       ),
       record {
+        footing = footing;
         story = story;
         failures = failures;
-        state_is = ap (λ (w : Option Ticketed). after (state_of (record view { waiting = w }) story failures) (Admitting batch (Queued (view.last_ticket + 1))) view.device) waits;
+        state_is = ap (λ (w : Option Ticketed). after (state_of (record view { waiting = w }) footing story failures) (Admitting batch (Queued (view.last_ticket + 1))) view.device) waits;
         fits = fits;
         standing = stands;
       },
@@ -110,12 +124,12 @@ same_way ticket stage (Some group) (Some first) = ap (λ b. (group.ticket == tic
 pub taken_goes : (view : CoreView) (ticket : ℕ) (told : Outcome) → told ≡ outcome_told ticket view.outcomes view.group view.waiting
     → Turns view (TakingOutcome ticket told) (record view { outcomes = filter (λ entry. not (entry.0 == ticket)) view.outcomes })
 taken_goes view ticket told is =
-    turns_by_story view (record view { outcomes = filter (λ entry. not (entry.0 == ticket)) view.outcomes }) (TakingOutcome ticket told) (λ story failures fits stands. (
+    turns_by_story view (record view { outcomes = filter (λ entry. not (entry.0 == ticket)) view.outcomes }) (TakingOutcome ticket told) (λ footing story failures fits stands. (
       (
         is ∙ ap (λ b. unwrap_or (outcome_kept ticket view.outcomes) (if b then outcome.Waiting else outcome.Unknown)) (same_way ticket view.stage view.group view.waiting),
         refl,
       ),
-      record { story = story; failures = failures; state_is = refl; fits = fits; standing = stands },
+      record { footing = footing; story = story; failures = failures; state_is = refl; fits = fits; standing = stands },
     ))
 
 kept_settled : (ticket : ℕ) (outcomes : List (ℕ × Outcome)) → AllByRecursion (λ (entry : ℕ × Outcome). IsSettled entry.1) outcomes
@@ -160,31 +174,10 @@ pub none_there : {A : Type 0} (o : Option A) → is_some o ≡ false → o ≡ N
 none_there None h = refl
 none_there (Some value) h = cc
 
+pub where_ok : {T E P : Type 0} (r : Result T E) → is_err r ≡ false → OnOk r P → P
+where_ok (Ok value) ended h = h
+where_ok (Err error) ended h = cc
+
 -- what the test of the sequence gives
 pub fits_before : (handed in_group waiting before ops size : ℕ) → before ≡ in_group + waiting → ops ≡ size → handed + before + ops ≤ 2 ^ 56 → handed + in_group + size ≤ 2 ^ 56
 fits_before handed in_group waiting before ops size p q r = omega arith
-
--- ---- a store is opened
-
-abbrev pub fresh : Seen → CoreView
-fresh device = record {
-  device = device;
-  trail = no_trail;
-  stage = Absent;
-  waiting = None;
-  group = None;
-  outcomes = [];
-  last_ticket = 0;
-  job = 0;
-  standing = None;
-  next_file = 1;
-}
-
-pub opened_stands : (s : State) (device : Seen) → StandsFor (fresh device) (after s (Opening (Ok 0)) device)
-opened_stands s device = record {
-  story = record { start = origin; log = []; limbo = []; floor = 0 };
-  failures = [];
-  state_is = refl;
-  fits = record { earlier = []; log_is = refl; limbo_is = refl; floor_is = refl; point_is = refl };
-  standing = refl;
-}

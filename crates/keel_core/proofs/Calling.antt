@@ -14,7 +14,7 @@ same_told change (Some before) None changes = absurd changes
 
 -- a call for which memory was wanting changed nothing
 pub quiet_want : (change : Change) (before after : Seen) → Calls before change (Err error.OutOfMemory) after → IsQuiet before None after
-quiet_want change before after calls = record { same = same_told change before.told after.told calls.leaves; count = calls.count; cause = calls.cause }
+quiet_want change before after calls = record { same = same_told change before.told after.told calls.leaves; count = calls.count; cause = calls.cause; simulated = calls.simulated }
 
 -- nothing happened
 pub quiet_same : (device : Seen) → IsQuiet device None device
@@ -22,4 +22,5 @@ quiet_same device = record {
   same = refl;
   count = refl;
   cause = record { never_falls = omega arith; risen = tt; last_is = tt; not_space_limit = tt };
+  simulated = refl;
 }

@@ -7,3 +7,5 @@ pub mod Appending
 pub mod Batches
 pub mod Resting
 pub mod Admitting
+pub mod Limits
+pub mod Opened

@@ -1,5 +1,5 @@
 -- What is true of every core stays true.
-use Rattle.std.proofs.Common.{◌≡◌, ℕ, ◌+◌, ◌≤◌, List, [], ◌∷◌, ◌++◌, length, filter, not, ◌==◌, Option, Some, None, refl, sym, ap, subst, ◌∙◌, arith, add-zero, vec_len, vec_capacity, cond, Bool, true, false}
+use Rattle.std.proofs.Common.{◌≡◌, ℕ, ◌+◌, ◌<◌, ◌≤◌, ◌^◌, List, [], ◌∷◌, ◌++◌, length, filter, not, ◌==◌, Option, Some, None, refl, sym, ap, subst, ◌∙◌, arith, add-zero, vec_len, vec_capacity, cond, Bool, true, false}
 use Rattle.std.specs.List.{AllByRecursion}
 use Rattle.keel_base.specs.Points.{Point}
 use Rattle.keel_base.specs.declared.op.Batch.{Batch}
@@ -13,7 +13,7 @@ use Rattle.keel_core.specs.declared.queue.Group.{Group}
 use Rattle.keel_core.specs.declared.queue.Queue.{Queue}
 use Rattle.keel_core.specs.declared.trail.Trail.{Trail}
 use Rattle.keel_core.specs.Optional.{ops_in, one_if}
-use Rattle.keel_core.specs.Orders.{IsInOrder, IsReady, IsSettled, IsStaged, WhereAdmissible, point_at, group_batch}
+use Rattle.keel_core.specs.Orders.{IsAdmissible, IsInOrder, IsReady, IsSettled, IsStaged, WhereAdmissible, point_at, group_batch}
 use Rattle.keel_core.specs.Queues.{group_settled, without_batch, batch_of_group}
 use Rattle.keel_core.specs.Steps.{all_published}
 use Rattle.keel_core.specs.Views.{CoreView}
@@ -222,3 +222,44 @@ taken_in_order trail old new log last_seq handed_seq next_file ticket order wait
   file = order.file;
   most_file = order.most_file;
 }
+
+-- ---- a batch was queued
+
+at_most_one : {A : Type 0} (o : Option A) → one_if o ≤ 1
+at_most_one None = omega arith
+at_most_one (Some value) = omega arith
+
+-- what a queue and a trail are behind the memory that was taken
+pub record IsReserved (trail behind : Trail) (old new : Queue) : Type 0 where
+  pub shows : shown behind ≡ shown trail
+  pub trail_room : vec_len behind.batches + 2 ≤ vec_capacity behind.batches
+  pub group : new.group ≡ old.group
+  pub outcomes : new.outcomes.items ≡ old.outcomes.items
+  pub outcome_room : vec_len new.outcomes + 2 ≤ vec_capacity new.outcomes
+  pub ticket : new.last_ticket ≡ old.last_ticket
+  pub job : new.job ≡ old.job
+
+abbrev pub queued_in : Batch → Queue → Queue
+queued_in batch queue = record queue { waiting = Some (record { ticket = queue.last_ticket + 1; batch = batch }); last_ticket = queue.last_ticket + 1 }
+
+pub queued_in_order : (trail behind : Trail) (old new : Queue) (log : OwnLog) (last_seq handed_seq next_file : ℕ) (batch : Batch)
+    → IsInOrder trail old log last_seq handed_seq next_file → IsReserved trail behind old new → IsAdmissible batch
+    → handed_seq + ops_in (group_batch old.group) + length batch.ops ≤ 2 ^ 56 → old.last_ticket < 2 ^ 56
+    → IsInOrder behind (queued_in batch new) log last_seq handed_seq next_file
+queued_in_order trail behind old new log last_seq handed_seq next_file batch order r ok enough ticket =
+    let group = r.group in
+    record {
+      seq = order.seq ∙ ap (λ (t : TrailShown). (point_at t).seq) (sym r.shows);
+      handed = subst (λ (t : TrailShown). handed_seq ≡ last_seq + count_ops (ops_of t.limbo)) (sym r.shows) order.handed;
+      enough = rw group enough;
+      group = rw group order.group;
+      waiting = ok;
+      staged = rw group order.staged;
+      settled = rw r.outcomes order.settled;
+      trail_room = omega (arith, r.trail_room, at_most_one (group_batch new.group));
+      outcome_room = omega (arith, r.outcome_room, at_most_one new.group);
+      job = omega (arith, order.job, r.job);
+      ticket = omega (arith, ticket, r.ticket);
+      file = order.file;
+      most_file = order.most_file;
+    }

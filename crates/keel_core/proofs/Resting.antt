@@ -4,7 +4,7 @@ use Rattle.keel_base.specs.declared.failure.Failure.{Failure}
 use Rattle.keel_machine.specs.declared.steps.WriteStep.{WriteStep}
 use Rattle.keel_machine.specs.declared.steps.WriteStep.TheVariants as step
 use Rattle.keel_machine.specs.Admission.{standing_of}
-use Rattle.keel_machine.specs.States.{State, Story}
+use Rattle.keel_machine.specs.States.{State, Story, Footing, Unknown}
 use Rattle.keel_machine.specs.Turns.{Answers, after, Writing}
 use Rattle.keel_machine.specs.Outside.{IsQuiet}
 use Rattle.keel_machine.specs.Tests.{first_some, when, differing}
@@ -33,19 +33,20 @@ rest_with view held standing = first_some (
     ∷ [])
 
 -- what a step answers without a call depends on the failures by the one that stands
-same_rest : (view : CoreView) (group : Option Group) (story other : Story) (failures others : List Failure) (held : Option ℕ) → standing_of failures ≡ standing_of others
-    → write_rest (state_of (record view { group = group }) story failures) held ≡ write_rest (state_of (record view { group = group }) other others) held
-same_rest view (Some group) story other failures others held same = refl
-same_rest view None story other failures others held same = ap (rest_with view held) same
+same_rest : (view : CoreView) (group : Option Group) (footing one : Footing) (story other : Story) (failures others : List Failure) (held : Option ℕ) → standing_of failures ≡ standing_of others
+    → write_rest (state_of (record view { group = group }) footing story failures) held ≡ write_rest (state_of (record view { group = group }) one other others) held
+same_rest view (Some group) footing one story other failures others held same = refl
+same_rest view None footing one story other failures others held same = ap (rest_with view held) same
 
 pub rest_same : (view : CoreView) (s : State) (held : Option ℕ) → StandsFor view s → write_rest s held ≡ rest_of view held
 rest_same view s held stands =
     ap (λ (t : State). write_rest t held) stands.state_is
-    ∙ same_rest view view.group stands.story no_story stands.failures (option_to_list view.standing) held (sym stands.standing ∙ sym (standing_of-one view.standing))
+    ∙ same_rest view view.group stands.footing Unknown stands.story no_story stands.failures (option_to_list view.standing) held (sym stands.standing ∙ sym (standing_of-one view.standing))
 
 turned_stands : (view : CoreView) (waiting : Option Ticketed) (batches : ℕ) (failure : Failure) (s : State) → StandsFor (record view { waiting = waiting }) s
     → StandsFor (rested (step.Turned batches failure) (record view { waiting = waiting })) (after s (Writing None (step.Turned batches failure)) view.device)
 turned_stands view None batches failure s stands = record {
+  footing = stands.footing;
   story = stands.story;
   failures = stands.failures;
   state_is = ap (λ (t : State). after t (Writing None (step.Turned batches failure)) view.device) stands.state_is;
@@ -53,6 +54,7 @@ turned_stands view None batches failure s stands = record {
   standing = stands.standing;
 }
 turned_stands view (Some first) batches failure s stands = record {
+  footing = stands.footing;
   story = stands.story;
   failures = stands.failures;
   state_is = ap (λ (t : State). after t (Writing None (step.Turned batches failure)) view.device) stands.state_is;

@@ -18,7 +18,7 @@ use Rattle.keel_machine.specs.declared.steps.WriteStep.{WriteStep}
 use Rattle.keel_machine.specs.declared.steps.WriteStep.TheVariants as step
 use Rattle.keel_machine.specs.Admission.{standing_of}
 use Rattle.keel_machine.specs.Outside.{Calls}
-use Rattle.keel_machine.specs.States.{State, Seen, Story, point_of, MakeLog, SyncDirectory, AddRecords, SyncLog}
+use Rattle.keel_machine.specs.States.{State, Seen, Story, Footing, point_of, MakeLog, SyncDirectory, AddRecords, SyncLog}
 use Rattle.keel_machine.specs.Turns.{Answers, after, Writing}
 use Rattle.keel_machine.specs.Writing.{write_rest}
 use Rattle.keel_machine.specs.WritingAfter.{failure_of, handed_over, story_published}
@@ -36,15 +36,15 @@ use Rattle.keel_core.proofs.Stories.{fits_handed, fits_published, standing_more}
 
 -- It is enough to show it of the state that a story and failures make.
 pub by_story : (old new : CoreView) (made : WriteStep)
-    → ((story : Story) (failures : List Failure) (held : Option ℕ) → Fits (point_in old) old.trail story → old.standing ≡ standing_of failures
-    → write_rest (state_of old story failures) held ≡ None
-    → Answers (state_of old story failures) (Writing held made) new.device
-    × StandsFor new (after (state_of old story failures) (Writing held made) new.device))
+    → ((footing : Footing) (story : Story) (failures : List Failure) (held : Option ℕ) → Fits (point_in old) old.trail story → old.standing ≡ standing_of failures
+    → write_rest (state_of old footing story failures) held ≡ None
+    → Answers (state_of old footing story failures) (Writing held made) new.device
+    × StandsFor new (after (state_of old footing story failures) (Writing held made) new.device))
     → MakesCall old made new
 by_story old new made shown = record {
   goes = λ s held stands.
       subst (λ (t : State). write_rest t held ≡ None → Answers t (Writing held made) new.device × StandsFor new (after t (Writing held made) new.device)) (sym stands.state_is)
-      (shown stands.story stands.failures held stands.fits stands.standing);
+      (shown stands.footing stands.story stands.failures held stands.fits stands.standing);
 }
 
 single_record : (place : ℕ) (payload : List ℕ) → records_bytes place (payload ∷ []) ≡ record_bytes place payload
@@ -78,9 +78,9 @@ module _ (device told : Seen) (trail : TrailShown) (outcomes : List (ℕ × Outc
   pub want_at : (change : Change) (stage : OwnLog) (waiting : Option Ticketed) (group : Option Group) (job next_file : ℕ)
       → Calls device change (Err error.OutOfMemory) told
       → MakesCall (view_at device stage waiting group job next_file) step.OutOfMemory (view_at told stage waiting group job next_file)
-  want_at change stage waiting group job next_file calls = by_story (view_at device stage waiting group job next_file) (view_at told stage waiting group job next_file) step.OutOfMemory (λ story failures held fits stands none. (
+  want_at change stage waiting group job next_file calls = by_story (view_at device stage waiting group job next_file) (view_at told stage waiting group job next_file) step.OutOfMemory (λ footing story failures held fits stands none. (
     record { no_rest = none; quiet = quiet_want change device told calls },
-    record { story = story; failures = failures; state_is = refl; fits = fits; standing = stands },
+    record { footing = footing; story = story; failures = failures; state_is = refl; fits = fits; standing = stands },
   ))
 
   -- ---- a log is made
@@ -89,7 +89,7 @@ module _ (device told : Seen) (trail : TrailShown) (outcomes : List (ℕ × Outc
       → Calls device (Create (Log next_file)) (Ok tt) told
       → MakesCall (view_at device Absent waiting (Some (flying ticket sync (Some batch))) job next_file) (step.Moved job call.Create)
       (view_at told (Created next_file) waiting (Some (flying ticket sync (Some batch))) job (next_file + 1))
-  made_in waiting ticket sync batch job next_file calls = by_story (view_at device Absent waiting (Some (flying ticket sync (Some batch))) job next_file) (view_at told (Created next_file) waiting (Some (flying ticket sync (Some batch))) job (next_file + 1)) (step.Moved job call.Create) (λ story failures held fits stands none. (
+  made_in waiting ticket sync batch job next_file calls = by_story (view_at device Absent waiting (Some (flying ticket sync (Some batch))) job next_file) (view_at told (Created next_file) waiting (Some (flying ticket sync (Some batch))) job (next_file + 1)) (step.Moved job call.Create) (λ footing story failures held fits stands none. (
     record {
       group = shown_group Absent (flying ticket sync (Some batch));
       act = MakeLog;
@@ -99,13 +99,13 @@ module _ (device told : Seen) (trail : TrailShown) (outcomes : List (ℕ × Outc
       job_is = refl;
       call_is = refl;
     },
-    record { story = story; failures = failures; state_is = refl; fits = fits; standing = stands },
+    record { footing = footing; story = story; failures = failures; state_is = refl; fits = fits; standing = stands },
   ))
 
   made_first : (first : Ticketed) (job next_file : ℕ) → Calls device (Create (Log next_file)) (Ok tt) told
       → MakesCall (view_at device Absent (Some first) None job next_file) (step.Moved (job + 1) call.Create)
       (entered_at told (Created next_file) (Some first) None job (next_file + 1))
-  made_first first job next_file calls = by_story (view_at device Absent (Some first) None job next_file) (entered_at told (Created next_file) (Some first) None job (next_file + 1)) (step.Moved (job + 1) call.Create) (λ story failures held fits stands none. (
+  made_first first job next_file calls = by_story (view_at device Absent (Some first) None job next_file) (entered_at told (Created next_file) (Some first) None job (next_file + 1)) (step.Moved (job + 1) call.Create) (λ footing story failures held fits stands none. (
     record {
       group = shown_group Absent (flying first.ticket first.batch.sync (Some first.batch));
       act = MakeLog;
@@ -115,7 +115,7 @@ module _ (device told : Seen) (trail : TrailShown) (outcomes : List (ℕ × Outc
       job_is = refl;
       call_is = refl;
     },
-    record { story = story; failures = failures; state_is = refl; fits = fits; standing = stands },
+    record { footing = footing; story = story; failures = failures; state_is = refl; fits = fits; standing = stands },
   ))
 
   made_group : (waiting : Option Ticketed) (ticket : ℕ) (sync : Bool) (batch : Option Batch) (job next_file : ℕ)
@@ -139,7 +139,7 @@ module _ (device told : Seen) (trail : TrailShown) (outcomes : List (ℕ × Outc
       → Calls device (Create (Log next_file)) (Err (error.Fault fault)) told
       → MakesCall (view_at device Absent waiting (Some (flying ticket sync (Some batch))) job next_file) (step.Failed (failure_of fault))
       (stopped (failure_of fault) (view_at told Absent waiting (Some (flying ticket sync (Some batch))) job (next_file + 1)))
-  failed_in waiting ticket sync batch job next_file fault calls = by_story (view_at device Absent waiting (Some (flying ticket sync (Some batch))) job next_file) (stopped (failure_of fault) (view_at told Absent waiting (Some (flying ticket sync (Some batch))) job (next_file + 1))) (step.Failed (failure_of fault)) (λ story failures held fits stands none. (
+  failed_in waiting ticket sync batch job next_file fault calls = by_story (view_at device Absent waiting (Some (flying ticket sync (Some batch))) job next_file) (stopped (failure_of fault) (view_at told Absent waiting (Some (flying ticket sync (Some batch))) job (next_file + 1))) (step.Failed (failure_of fault)) (λ footing story failures held fits stands none. (
     record {
       group = shown_group Absent (flying ticket sync (Some batch));
       act = MakeLog;
@@ -148,13 +148,13 @@ module _ (device told : Seen) (trail : TrailShown) (outcomes : List (ℕ × Outc
       made = record { makes = record { no_rest = none; group_is = refl; next = refl }; calls = calls };
       failure_is = refl;
     },
-    record { story = story; failures = failures ++ failure_of fault ∷ []; state_is = refl; fits = fits; standing = standing_more failures standing (failure_of fault) stands },
+    record { footing = footing; story = story; failures = failures ++ failure_of fault ∷ []; state_is = refl; fits = fits; standing = standing_more failures standing (failure_of fault) stands },
   ))
 
   failed_first : (first : Ticketed) (job next_file : ℕ) (fault : Fault) → Calls device (Create (Log next_file)) (Err (error.Fault fault)) told
       → MakesCall (view_at device Absent (Some first) None job next_file) (step.Failed (failure_of fault))
       (stopped (failure_of fault) (entered_at told Absent (Some first) None job (next_file + 1)))
-  failed_first first job next_file fault calls = by_story (view_at device Absent (Some first) None job next_file) (stopped (failure_of fault) (entered_at told Absent (Some first) None job (next_file + 1))) (step.Failed (failure_of fault)) (λ story failures held fits stands none. (
+  failed_first first job next_file fault calls = by_story (view_at device Absent (Some first) None job next_file) (stopped (failure_of fault) (entered_at told Absent (Some first) None job (next_file + 1))) (step.Failed (failure_of fault)) (λ footing story failures held fits stands none. (
     record {
       group = shown_group Absent (flying first.ticket first.batch.sync (Some first.batch));
       act = MakeLog;
@@ -163,7 +163,7 @@ module _ (device told : Seen) (trail : TrailShown) (outcomes : List (ℕ × Outc
       made = record { makes = record { no_rest = none; group_is = refl; next = refl }; calls = calls };
       failure_is = refl;
     },
-    record { story = story; failures = failures ++ failure_of fault ∷ []; state_is = refl; fits = fits; standing = standing_more failures standing (failure_of fault) stands },
+    record { footing = footing; story = story; failures = failures ++ failure_of fault ∷ []; state_is = refl; fits = fits; standing = standing_more failures standing (failure_of fault) stands },
   ))
 
   failed_group : (waiting : Option Ticketed) (ticket : ℕ) (sync : Bool) (batch : Option Batch) (job next_file : ℕ) (fault : Fault)
@@ -188,7 +188,7 @@ module _ (device told : Seen) (trail : TrailShown) (outcomes : List (ℕ × Outc
       → MakesCall (view_at device (Created number) waiting (Some (flying ticket sync batch)) job next_file) (step.Moved job call.SyncDir)
       (view_at told (Ready number 0) waiting (Some (flying ticket sync batch)) job next_file)
   synced_in waiting ticket sync None number job next_file staged calls = absurd staged
-  synced_in waiting ticket sync (Some batch) number job next_file staged calls = by_story (view_at device (Created number) waiting (Some (flying ticket sync (Some batch))) job next_file) (view_at told (Ready number 0) waiting (Some (flying ticket sync (Some batch))) job next_file) (step.Moved job call.SyncDir) (λ story failures held fits stands none. (
+  synced_in waiting ticket sync (Some batch) number job next_file staged calls = by_story (view_at device (Created number) waiting (Some (flying ticket sync (Some batch))) job next_file) (view_at told (Ready number 0) waiting (Some (flying ticket sync (Some batch))) job next_file) (step.Moved job call.SyncDir) (λ footing story failures held fits stands none. (
     record {
       group = shown_group (Created number) (flying ticket sync (Some batch));
       act = SyncDirectory;
@@ -198,7 +198,7 @@ module _ (device told : Seen) (trail : TrailShown) (outcomes : List (ℕ × Outc
       job_is = refl;
       call_is = refl;
     },
-    record { story = story; failures = failures; state_is = refl; fits = fits; standing = stands },
+    record { footing = footing; story = story; failures = failures; state_is = refl; fits = fits; standing = stands },
   ))
 
   pub name_synced : (waiting : Option Ticketed) (group : Option Group) (number job next_file : ℕ)
@@ -213,7 +213,7 @@ module _ (device told : Seen) (trail : TrailShown) (outcomes : List (ℕ × Outc
       → MakesCall (view_at device (Created number) waiting (Some (flying ticket sync batch)) job next_file) (step.Failed (failure_of fault))
       (stopped (failure_of fault) (view_at told (Created number) waiting (Some (flying ticket sync batch)) job next_file))
   unsynced_in waiting ticket sync None number job next_file fault staged calls = absurd staged
-  unsynced_in waiting ticket sync (Some batch) number job next_file fault staged calls = by_story (view_at device (Created number) waiting (Some (flying ticket sync (Some batch))) job next_file) (stopped (failure_of fault) (view_at told (Created number) waiting (Some (flying ticket sync (Some batch))) job next_file)) (step.Failed (failure_of fault)) (λ story failures held fits stands none. (
+  unsynced_in waiting ticket sync (Some batch) number job next_file fault staged calls = by_story (view_at device (Created number) waiting (Some (flying ticket sync (Some batch))) job next_file) (stopped (failure_of fault) (view_at told (Created number) waiting (Some (flying ticket sync (Some batch))) job next_file)) (step.Failed (failure_of fault)) (λ footing story failures held fits stands none. (
     record {
       group = shown_group (Created number) (flying ticket sync (Some batch));
       act = SyncDirectory;
@@ -222,7 +222,7 @@ module _ (device told : Seen) (trail : TrailShown) (outcomes : List (ℕ × Outc
       made = record { makes = record { no_rest = none; group_is = refl; next = refl }; calls = calls };
       failure_is = refl;
     },
-    record { story = story; failures = failures ++ failure_of fault ∷ []; state_is = refl; fits = fits; standing = standing_more failures standing (failure_of fault) stands },
+    record { footing = footing; story = story; failures = failures ++ failure_of fault ∷ []; state_is = refl; fits = fits; standing = standing_more failures standing (failure_of fault) stands },
   ))
 
   pub name_failed : (waiting : Option Ticketed) (group : Option Group) (number job next_file : ℕ) (fault : Fault)
@@ -238,10 +238,10 @@ module _ (device told : Seen) (trail : TrailShown) (outcomes : List (ℕ × Outc
       → MakesCall (view_at device (Ready number size) waiting (Some (flying ticket sync None)) job next_file)
       (step.Done job (point_at (published true trail)).seq 1)
       (all_published true (view_at told (Ready number size) waiting (Some (flying ticket sync None)) job next_file))
-  firm_in waiting ticket sync number size job next_file calls = by_story (view_at device (Ready number size) waiting (Some (flying ticket sync None)) job next_file) (all_published true (view_at told (Ready number size) waiting (Some (flying ticket sync None)) job next_file)) (step.Done job (point_at (published true trail)).seq 1) (λ story failures held fits stands none.
+  firm_in waiting ticket sync number size job next_file calls = by_story (view_at device (Ready number size) waiting (Some (flying ticket sync None)) job next_file) (all_published true (view_at told (Ready number size) waiting (Some (flying ticket sync None)) job next_file)) (step.Done job (point_at (published true trail)).seq 1) (λ footing story failures held fits stands none.
       let later = fits_published trail story true fits in
       let seq = ap (λ (p : Point). p.seq) later.point_is in
-      let behind : ℕ → State = λ n. state_of (record (view_at told (Ready number size) waiting None job next_file) { trail = published true trail; outcomes = outcomes ++ (ticket, outcome.Done n) ∷ [] }) (story_published true story) failures in (
+      let behind : ℕ → State = λ n. state_of (record (view_at told (Ready number size) waiting None job next_file) { trail = published true trail; outcomes = outcomes ++ (ticket, outcome.Done n) ∷ [] }) footing (story_published true story) failures in (
         record {
           group = shown_group (Ready number size) (flying ticket sync None);
           act = SyncLog;
@@ -250,7 +250,7 @@ module _ (device told : Seen) (trail : TrailShown) (outcomes : List (ℕ × Outc
           seq_is = seq;
           batches_is = refl;
         },
-        record { story = story_published true story; failures = failures; state_is = ap behind (sym seq); fits = later; standing = stands },
+        record { footing = footing; story = story_published true story; failures = failures; state_is = ap behind (sym seq); fits = later; standing = stands },
       ))
 
   pub log_synced : (waiting : Option Ticketed) (ticket : ℕ) (sync : Bool) (batch : Option Batch) (number size job next_file : ℕ)
@@ -268,7 +268,7 @@ module _ (device told : Seen) (trail : TrailShown) (outcomes : List (ℕ × Outc
       → Calls device (Sync (Log number)) (Err (error.Fault fault)) told
       → MakesCall (view_at device (Ready number size) waiting (Some (flying ticket sync None)) job next_file) (step.Failed (failure_of fault))
       (stopped (failure_of fault) (view_at told (Ready number size) waiting (Some (flying ticket sync None)) job next_file))
-  unfirm_in waiting ticket sync number size job next_file fault calls = by_story (view_at device (Ready number size) waiting (Some (flying ticket sync None)) job next_file) (stopped (failure_of fault) (view_at told (Ready number size) waiting (Some (flying ticket sync None)) job next_file)) (step.Failed (failure_of fault)) (λ story failures held fits stands none. (
+  unfirm_in waiting ticket sync number size job next_file fault calls = by_story (view_at device (Ready number size) waiting (Some (flying ticket sync None)) job next_file) (stopped (failure_of fault) (view_at told (Ready number size) waiting (Some (flying ticket sync None)) job next_file)) (step.Failed (failure_of fault)) (λ footing story failures held fits stands none. (
     record {
       group = shown_group (Ready number size) (flying ticket sync None);
       act = SyncLog;
@@ -277,7 +277,7 @@ module _ (device told : Seen) (trail : TrailShown) (outcomes : List (ℕ × Outc
       made = record { makes = record { no_rest = none; group_is = refl; next = refl }; calls = calls };
       failure_is = refl;
     },
-    record { story = story; failures = failures ++ failure_of fault ∷ []; state_is = refl; fits = fits; standing = standing_more failures standing (failure_of fault) stands },
+    record { footing = footing; story = story; failures = failures ++ failure_of fault ∷ []; state_is = refl; fits = fits; standing = standing_more failures standing (failure_of fault) stands },
   ))
 
   pub sync_failed : (waiting : Option Ticketed) (ticket : ℕ) (sync : Bool) (batch : Option Batch) (number size job next_file : ℕ) (fault : Fault)
@@ -346,18 +346,18 @@ module _ (device told : Seen) (trail : TrailShown) (outcomes : List (ℕ × Outc
     view_handed waiting group job next_file = record (view_at told (Ready number (size + length bytes)) waiting group job next_file) { trail = handed_trail }
 
     -- The states behind the append, by the bytes that the machine appends.
-    abbrev pub state_handed : Option Ticketed → ℕ → ℕ → ℕ → Story → List Failure → List ℕ → State
-    state_handed waiting ticket job next_file story failures appends =
+    abbrev pub state_handed : Option Ticketed → ℕ → ℕ → ℕ → Footing → Story → List Failure → List ℕ → State
+    state_handed waiting ticket job next_file footing story failures appends =
         state_of (record (view_at told (Ready number (size + length appends)) waiting (Some (flying ticket true None)) job next_file) { trail = handed_trail })
-        (handed_over (batch.ops ∷ []) story) failures
+        footing (handed_over (batch.ops ∷ []) story) failures
 
-    abbrev pub state_done : Option Ticketed → ℕ → ℕ → ℕ → Story → List Failure → List ℕ → ℕ → State
-    state_done waiting ticket job next_file story failures appends seq =
+    abbrev pub state_done : Option Ticketed → ℕ → ℕ → ℕ → Footing → Story → List Failure → List ℕ → ℕ → State
+    state_done waiting ticket job next_file footing story failures appends seq =
         state_of (record (view_at told (Ready number (size + length appends)) waiting None job next_file) {
           trail = published false handed_trail;
           outcomes = outcomes ++ (ticket, outcome.Done seq) ∷ [];
         })
-        (story_published false (handed_over (batch.ops ∷ []) story)) failures
+        footing (story_published false (handed_over (batch.ops ∷ []) story)) failures
 
     -- ---- of a group in flight
 
@@ -366,7 +366,7 @@ module _ (device told : Seen) (trail : TrailShown) (outcomes : List (ℕ × Outc
         (view_handed waiting (Some (flying ticket true None)) job next_file)
     added_in waiting ticket job next_file calls =
         by_story (view_at device (Ready number size) waiting (Some (flying ticket true (Some batch))) job next_file) (view_handed waiting (Some (flying ticket true None)) job next_file) (step.Moved job call.Append)
-        (λ story failures held fits stands none.
+        (λ footing story failures held fits stands none.
         let same = appended story fits in (
           record {
             group = shown_group (Ready number size) (flying ticket true (Some batch));
@@ -381,9 +381,10 @@ module _ (device told : Seen) (trail : TrailShown) (outcomes : List (ℕ × Outc
             call_is = refl;
           },
           record {
+            footing = footing;
             story = handed_over (batch.ops ∷ []) story;
             failures = failures;
-            state_is = ap (state_handed waiting ticket job next_file story failures) same;
+            state_is = ap (state_handed waiting ticket job next_file footing story failures) same;
             fits = fits_handed (point_at trail) trail story batch fits;
             standing = stands;
           },
@@ -396,7 +397,7 @@ module _ (device told : Seen) (trail : TrailShown) (outcomes : List (ℕ × Outc
     done_in waiting ticket job next_file calls =
         by_story (view_at device (Ready number size) waiting (Some (flying ticket false (Some batch))) job next_file)
         (all_published false (view_handed waiting (Some (flying ticket false None)) job next_file)) (step.Done job (point_at (published false handed_trail)).seq 1)
-        (λ story failures held fits stands none.
+        (λ footing story failures held fits stands none.
         let same = appended story fits in
         let later = fits_published handed_trail (handed_over (batch.ops ∷ []) story) false (fits_handed (point_at trail) trail story batch fits) in
         let seq = ap (λ (p : Point). p.seq) later.point_is in (
@@ -412,9 +413,10 @@ module _ (device told : Seen) (trail : TrailShown) (outcomes : List (ℕ × Outc
             batches_is = refl;
           },
           record {
+            footing = footing;
             story = story_published false (handed_over (batch.ops ∷ []) story);
             failures = failures;
-            state_is = λ i. state_done waiting ticket job next_file story failures (same i) (sym seq i);
+            state_is = λ i. state_done waiting ticket job next_file footing story failures (same i) (sym seq i);
             fits = later;
             standing = stands;
           },
@@ -428,7 +430,7 @@ module _ (device told : Seen) (trail : TrailShown) (outcomes : List (ℕ × Outc
         by_story (view_at device (Ready number size) waiting (Some (flying ticket sync (Some batch))) job next_file)
         (stopped (failure_of fault) (record (view_at told (Ready number size) waiting (Some (flying ticket sync None)) job next_file) { trail = handed_trail }))
         (step.Failed (failure_of fault))
-        (λ story failures held fits stands none. (
+        (λ footing story failures held fits stands none. (
           record {
             group = shown_group (Ready number size) (flying ticket sync (Some batch));
             act = AddRecords;
@@ -441,6 +443,7 @@ module _ (device told : Seen) (trail : TrailShown) (outcomes : List (ℕ × Outc
             failure_is = refl;
           },
           record {
+            footing = footing;
             story = handed_over (batch.ops ∷ []) story;
             failures = failures ++ failure_of fault ∷ [];
             state_is = refl;
@@ -499,10 +502,10 @@ module _ (device : Seen) (trail : TrailShown) (outcomes : List (ℕ × Outcome))
 
   pub moved_first : (new : CoreView) (at : ℕ) (call : Call) → MakesCall (view_in None (Some formed_first) (job + 1)) (step.Moved at call) new
       → MakesCall (view_in (Some first) None job) (step.Moved at call) new
-  moved_first new at call in_flight = by_story (view_in (Some first) None job) new (step.Moved at call) (λ story failures held fits stands none.
-      let stood : StandsFor (view_in None (Some formed_first) (job + 1)) (state_of (view_in None (Some formed_first) (job + 1)) story failures) =
-      record { story = story; failures = failures; state_is = refl; fits = fits; standing = stands } in
-      let made = in_flight.goes (state_of (view_in None (Some formed_first) (job + 1)) story failures) None stood refl in (
+  moved_first new at call in_flight = by_story (view_in (Some first) None job) new (step.Moved at call) (λ footing story failures held fits stands none.
+      let stood : StandsFor (view_in None (Some formed_first) (job + 1)) (state_of (view_in None (Some formed_first) (job + 1)) footing story failures) =
+      record { footing = footing; story = story; failures = failures; state_is = refl; fits = fits; standing = stands } in
+      let made = in_flight.goes (state_of (view_in None (Some formed_first) (job + 1)) footing story failures) None stood refl in (
         record {
           group = made.0.group;
           act = made.0.act;
@@ -517,10 +520,10 @@ module _ (device : Seen) (trail : TrailShown) (outcomes : List (ℕ × Outcome))
 
   pub done_first : (new : CoreView) (at seq batches : ℕ) → MakesCall (view_in None (Some formed_first) (job + 1)) (step.Done at seq batches) new
       → MakesCall (view_in (Some first) None job) (step.Done at seq batches) new
-  done_first new at seq batches in_flight = by_story (view_in (Some first) None job) new (step.Done at seq batches) (λ story failures held fits stands none.
-      let stood : StandsFor (view_in None (Some formed_first) (job + 1)) (state_of (view_in None (Some formed_first) (job + 1)) story failures) =
-      record { story = story; failures = failures; state_is = refl; fits = fits; standing = stands } in
-      let made = in_flight.goes (state_of (view_in None (Some formed_first) (job + 1)) story failures) None stood refl in (
+  done_first new at seq batches in_flight = by_story (view_in (Some first) None job) new (step.Done at seq batches) (λ footing story failures held fits stands none.
+      let stood : StandsFor (view_in None (Some formed_first) (job + 1)) (state_of (view_in None (Some formed_first) (job + 1)) footing story failures) =
+      record { footing = footing; story = story; failures = failures; state_is = refl; fits = fits; standing = stands } in
+      let made = in_flight.goes (state_of (view_in None (Some formed_first) (job + 1)) footing story failures) None stood refl in (
         record {
           group = made.0.group;
           act = made.0.act;
@@ -534,10 +537,10 @@ module _ (device : Seen) (trail : TrailShown) (outcomes : List (ℕ × Outcome))
 
   pub refused_first : (new : CoreView) (failure : Failure) → MakesCall (view_in None (Some formed_first) (job + 1)) (step.Failed failure) new
       → MakesCall (view_in (Some first) None job) (step.Failed failure) new
-  refused_first new failure in_flight = by_story (view_in (Some first) None job) new (step.Failed failure) (λ story failures held fits stands none.
-      let stood : StandsFor (view_in None (Some formed_first) (job + 1)) (state_of (view_in None (Some formed_first) (job + 1)) story failures) =
-      record { story = story; failures = failures; state_is = refl; fits = fits; standing = stands } in
-      let made = in_flight.goes (state_of (view_in None (Some formed_first) (job + 1)) story failures) None stood refl in (
+  refused_first new failure in_flight = by_story (view_in (Some first) None job) new (step.Failed failure) (λ footing story failures held fits stands none.
+      let stood : StandsFor (view_in None (Some formed_first) (job + 1)) (state_of (view_in None (Some formed_first) (job + 1)) footing story failures) =
+      record { footing = footing; story = story; failures = failures; state_is = refl; fits = fits; standing = stands } in
+      let made = in_flight.goes (state_of (view_in None (Some formed_first) (job + 1)) footing story failures) None stood refl in (
         record {
           group = made.0.group;
           act = made.0.act;

@@ -2,7 +2,7 @@
 use Rattle.std.proofs.Common.{◌≡◌, suc, ◌+◌, Bool, true, false, List, [], ◌∷◌, ◌++◌, length, Option, Some, refl, sym, ap, ◌∙◌, arith, append_assoc}
 use Rattle.std.proofs.lemmas.List.{length-append}
 use Rattle.std.specs.Option.{option_or}
-use Rattle.keel_base.specs.Points.{Point, origin, after_batch, fold_batches}
+use Rattle.keel_base.specs.Points.{Point, after_batch, fold_batches}
 use Rattle.keel_base.specs.declared.failure.Failure.{Failure}
 use Rattle.keel_base.specs.declared.op.Batch.{Batch}
 use Rattle.keel_base.specs.declared.op.Op.{Op}
@@ -10,7 +10,7 @@ use Rattle.keel_machine.specs.Admission.{ops_of, count_ops, standing_of}
 use Rattle.keel_machine.specs.States.{Story}
 use Rattle.keel_machine.specs.WritingAfter.{handed_over, story_published}
 use Rattle.keel_core.specs.Orders.{point_at}
-use Rattle.keel_core.specs.Trails.{TrailShown, handed, published}
+use Rattle.keel_core.specs.Trails.{TrailShown, base_of, handed, published}
 use Rattle.keel_core.specs.Views.{Fits}
 
 pub ops_of-append : (front back : List Batch) → ops_of (front ++ back) ≡ ops_of front ++ ops_of back
@@ -43,7 +43,7 @@ fits_handed point trail story batch fits = record {
 
 -- the map and the sequence behind the batches that are published
 pub point_published : (trail : TrailShown) (sync : Bool) → point_at (published sync trail) ≡ fold_batches (point_at trail) (ops_of trail.limbo)
-point_published trail sync = ap (fold_batches origin) (ops_of-append trail.log trail.limbo) ∙ fold_batches-append origin (ops_of trail.log) (ops_of trail.limbo)
+point_published trail sync = ap (fold_batches (base_of trail)) (ops_of-append trail.log trail.limbo) ∙ fold_batches-append (base_of trail) (ops_of trail.log) (ops_of trail.limbo)
 
 log_published : (trail : TrailShown) (story : Story) (earlier : List (List Op)) → story.log ≡ earlier ++ ops_of trail.log → story.limbo ≡ ops_of trail.limbo
     → story.log ++ story.limbo ≡ earlier ++ ops_of (trail.log ++ trail.limbo)

@@ -5,3 +5,4 @@ pub mod Queues
 pub mod Orders
 pub mod Views
 pub mod Steps
+pub mod Openings

@@ -1,7 +1,7 @@
 -- What is true of every core, whatever its device tells.
 use Rattle.std.specs.Prelude.{◌≡◌, ℕ, ◌+◌, ◌≤◌, ◌^◌, length, Option, Some, None, vec_len, vec_capacity}
 use Rattle.std.specs.List.{AllByRecursion}
-use Rattle.keel_base.specs.Points.{Point, origin, fold_batches}
+use Rattle.keel_base.specs.Points.{Point, fold_batches}
 use Rattle.keel_base.specs.declared.op.Batch.{Batch}
 use Rattle.keel_batch.specs.Spelling.{IsOp}
 use Rattle.keel_machine.specs.declared.answers.Outcome.{Outcome}
@@ -14,7 +14,7 @@ use Rattle.keel_core.specs.declared.queue.Group.{Group}
 use Rattle.keel_core.specs.declared.queue.Queue.{Queue}
 use Rattle.keel_core.specs.declared.trail.Trail.{Trail}
 use Rattle.keel_core.specs.Optional.{ops_in, one_if}
-use Rattle.keel_core.specs.Trails.{TrailShown, shown}
+use Rattle.keel_core.specs.Trails.{TrailShown, shown, base_of}
 
 -- a batch that may be queued: 1 to 1000 ops, with keys and values within their limits
 pub record IsAdmissible (batch : Batch) : Type 0 where
@@ -51,7 +51,7 @@ WhereAdmissible (Some batch) = IsAdmissible batch
 
 -- the map and the sequence behind the published batches
 abbrev pub point_at : TrailShown → Point
-point_at trail = fold_batches origin (ops_of trail.log)
+point_at trail = fold_batches (base_of trail) (ops_of trail.log)
 
 abbrev pub IsSettled : Outcome → Type 0
 IsSettled Waiting = ⊥
@@ -74,4 +74,4 @@ pub record IsInOrder (trail : Trail) (queue : Queue) (log : OwnLog) (last_seq ha
   pub job : queue.job ≤ 2 ^ 56
   pub ticket : queue.last_ticket ≤ 2 ^ 56
   pub file : 1 ≤ next_file
-  pub most_file : next_file ≤ 2 ^ 56
+  pub most_file : next_file ≤ 2 ^ 56 + 1

@@ -4,12 +4,13 @@ use Rattle.keel_base.specs.Points.{Point, origin}
 use Rattle.keel_base.specs.declared.failure.Failure.{Failure}
 use Rattle.keel_base.specs.declared.op.Batch.{Batch}
 use Rattle.keel_base.specs.declared.op.Op.{Op}
+use Rattle.keel_disk.specs.Told.{Told}
 use Rattle.keel_machine.specs.declared.answers.Outcome.{Outcome}
 use Rattle.keel_machine.specs.declared.steps.WriteStep.{WriteStep}
 use Rattle.keel_machine.specs.declared.steps.WriteStep.TheVariants as step
 use Rattle.keel_machine.specs.Admission.{ops_of, standing_of}
 use Rattle.keel_machine.specs.States as machine
-use Rattle.keel_machine.specs.States.{State, Seen, Story, Open, Act, MakeLog, SyncDirectory, AddRecords, SyncLog, point_of}
+use Rattle.keel_machine.specs.States.{State, Seen, Story, Footing, Unknown, Open, Act, MakeLog, SyncDirectory, AddRecords, SyncLog, point_of}
 use Rattle.keel_machine.specs.Turns.{Event, Answers, after}
 use Rattle.keel_machine.specs.Turns as turns
 use Rattle.keel_machine.specs.Writing.{write_rest}
@@ -71,6 +72,10 @@ pub record CoreView : Type 0 where
   pub standing : Option Failure
   pub next_file : ℕ
 
+-- the device tells that of itself, and all else is as it was
+abbrev pub with_told : Option Told → CoreView → CoreView
+with_told told view = record view { device = record view.device { told = told } }
+
 -- the map and the sequence behind the published batches
 abbrev pub point_in : CoreView → Point
 point_in view = point_at view.trail
@@ -85,10 +90,11 @@ pub record Fits (point : Point) (trail : TrailShown) (story : Story) : Type 0 wh
   pub floor_is : story.floor ≡ length earlier + trail.floor
   pub point_is : point ≡ point_of story
 
--- the state with that story and these failures, whose other parts are what the core shows
-abbrev pub state_of : CoreView → Story → List Failure → State
-state_of view story failures = record {
+-- the state with that footing, that story and these failures, whose other parts are what the core shows
+abbrev pub state_of : CoreView → Footing → Story → List Failure → State
+state_of view footing story failures = record {
   device = view.device;
+  footing = footing;
   mode = Open;
   story = story;
   log = own_of view.stage;
@@ -99,9 +105,10 @@ state_of view story failures = record {
 }
 
 pub record StandsFor (view : CoreView) (s : State) : Type 0 where
+  pub footing : Footing
   pub story : Story
   pub failures : List Failure
-  pub state_is : s ≡ state_of view story failures
+  pub state_is : s ≡ state_of view footing story failures
   pub fits : Fits (point_in view) view.trail story
   pub standing : view.standing ≡ standing_of failures
 
@@ -117,7 +124,7 @@ pub record Turns (old : CoreView) (event : Event) (new : CoreView) : Type 0 wher
 
 -- What a write step answers where it makes no call. It depends on what the core shows alone.
 abbrev pub rest_of : CoreView → Option ℕ → Option WriteStep
-rest_of view held = write_rest (state_of view no_story (option_to_list view.standing)) held
+rest_of view held = write_rest (state_of view Unknown no_story (option_to_list view.standing)) held
 
 -- the answers of a step that makes no call
 abbrev pub IsRest : WriteStep → Type 0

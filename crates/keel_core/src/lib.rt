@@ -13,6 +13,7 @@ mod log;
 mod lookup;
 mod opening;
 mod queue;
+mod sizes;
 mod store;
 mod trail;
 mod writing;

@@ -1,14 +1,32 @@
 // Finding a key among batches.
 ghost use Rattle.std.specs.Prelude.{◌≡◌, option_map};
 ghost use Rattle.std.specs.FinMap.{get};
-ghost use Rattle.keel_base.specs.Points.{Values, origin, after_op, after_ops, fold_batches};
+ghost use Rattle.keel_base.specs.Points.{Point, Values, after_op, after_ops, fold_batches};
 ghost use Rattle.keel_machine.specs.Admission.{ops_of};
+ghost use Rattle.keel_core.specs.Trails.{point_read};
 
 use keel_base::{Batch, Op};
+use keel_batch::Numbered;
 
-/// The value that the last change of a key left, where it left one.
-pub(crate) fn latest_value<'a>(batches: &'a [Batch], key: &[u8]) -> Option<&'a [u8]>
-    ensures { option_map (λ value. value.now) result ≡ get (fold_batches origin (ops_of batches.now)).values key.now }
+/// The value of a key behind some batches, from what it was before them.
+pub(crate) fn latest_value<'a>(
+    before: Option<&'a [u8]>,
+    batches: &'a [Batch],
+    key: &[u8],
+) -> Option<&'a [u8]>
+    ensures { (point : Point) → option_map (λ value. value.now) before.entry ≡ get point.values key.now
+        → option_map (λ value. value.now) result ≡ get (fold_batches point (ops_of batches.now)).values key.now }
+{
+    let mut found = before;
+    for batch in batches {
+        found = value_behind(found, batch.ops.as_slice(), key);
+    }
+    found
+}
+
+/// The value of a key behind the batches that an opening read.
+pub(crate) fn value_read<'a>(batches: &'a [Numbered], key: &[u8]) -> Option<&'a [u8]>
+    ensures { option_map (λ value. value.now) result ≡ get (point_read batches.now).values key.now }
 {
     let mut found = None;
     for batch in batches {

@@ -1,16 +1,17 @@
 // Opening a store.
-ghost use Rattle.std.specs.Prelude.{◌≡◌, IfOk, IfErr, Ok, Err};
+ghost use Rattle.std.specs.Prelude.{◌≡◌, IfOk, IfErr, Err};
 ghost use Rattle.keel_machine.specs.Outside.{seen};
 ghost use Rattle.keel_machine.specs.States.{State};
-ghost use Rattle.keel_machine.specs.Turns.{Opening, Answers, after};
-ghost use Rattle.keel_core.specs.Views.{StandsFor, point_in};
+ghost use Rattle.keel_machine.specs.Turns.{Opening, Answers};
+ghost use Rattle.keel_reading.specs.Answers.{RunsOn};
+ghost use Rattle.keel_core.specs.Openings.{Expects, Opens, fresh};
 
 use crate::log::OwnLog;
 use crate::queue::Queue;
 use crate::store::Core;
 use crate::trail::Trail;
-use keel_disk::{Disk, DiskError};
-use keel_machine::OpenRefusal;
+use keel_disk::Disk;
+use keel_reading::{Found, OpenRefusal, read_logs};
 use std::alloc::Global;
 
 /// An opening that is refused hands the device back.
@@ -21,42 +22,42 @@ pub struct Refused<D: Disk> {
 }
 
 impl<D: Disk> Core<D> {
-    /// Opens the store in the directory of the device. It changes nothing there.
+    /// Opens the store in the directory of the device: it goes on behind the batches of the logs there. It changes
+    /// nothing there.
     pub fn open(alloc: Global, disk: D) -> Result<Core<D>, Refused<D>>
-        ensures ok { (s : State) → s.device ≡ seen (D.told disk) (D.changes disk) (D.faults disk) (D.last_fault disk) → IfOk result (λ core.
-            Answers s (Opening (Ok (point_in core).seq)) core.device × StandsFor core (after s (Opening (Ok (point_in core).seq)) core.device)) }
-        ensures refused { (s : State) → s.device ≡ seen (D.told disk) (D.changes disk) (D.faults disk) (D.last_fault disk) → IfErr result (λ e.
-            Answers s (Opening (Err e.refusal)) (seen (D.told e.disk) (D.changes e.disk) (D.faults e.disk) (D.last_fault e.disk))) }
+        // A store's story goes on where the device bears it out.
+        ensures ok { (s : State) → s.device ≡ seen (D.told disk) (D.changes disk) (D.faults disk) (D.last_fault disk) (D.is_simulated disk) → Expects s
+            → IfOk result (Opens s) }
+        // A refusal has its cause in the device, whatever the story.
+        ensures refused { (s : State) → s.device ≡ seen (D.told disk) (D.changes disk) (D.faults disk) (D.last_fault disk) (D.is_simulated disk) → IfErr result (λ e.
+            Answers s (Opening (Err e.refusal)) (seen (D.told e.disk) (D.changes e.disk) (D.faults e.disk) (D.last_fault e.disk) (D.is_simulated e.disk))) }
     {
         let mut disk = disk;
-        match disk.list(alloc) {
-            Ok(listing) => match listing.as_slice() {
-                [] => Ok(Core {
-                    disk,
-                    trail: Trail::new(alloc),
-                    queue: Queue::new(alloc),
-                    log: OwnLog::Absent,
-                    last_seq: 0,
-                    handed_seq: 0,
-                    next_file: 1,
-                    standing: None,
-                }),
-                [first, ..] => {
-                    let file = first.name;
-                    Err(Refused {
-                        refusal: OpenRefusal::NoCurrent { file },
-                        disk,
-                    })
-                }
-            },
-            Err(DiskError::Fault(fault)) => Err(Refused {
-                refusal: OpenRefusal::Device(fault),
-                disk,
-            }),
-            Err(DiskError::OutOfMemory) => Err(Refused {
-                refusal: OpenRefusal::OutOfMemory,
-                disk,
-            }),
+        match read_logs(alloc, &mut disk) {
+            Ok(found) => Ok(Core::behind(alloc, disk, found)),
+            Err(refusal) => Err(Refused { refusal, disk }),
+        }
+    }
+
+    // The store behind what was found, which writes to a log of its own.
+    fn behind(alloc: Global, disk: D, found: Found) -> Core<D>
+        requires { RunsOn found }
+        ensures { result ≡ fresh (seen (D.told disk) (D.changes disk) (D.faults disk) (D.last_fault disk) (D.is_simulated disk)) found }
+    {
+        let Found {
+            batches,
+            last_seq,
+            next_file,
+        } = found;
+        Core {
+            disk,
+            trail: Trail::new(alloc, batches),
+            queue: Queue::new(alloc),
+            log: OwnLog::Absent,
+            last_seq,
+            handed_seq: last_seq,
+            next_file,
+            standing: None,
         }
     }
 }

@@ -1,16 +1,19 @@
 // The store: what it keeps, and the calls that make none of the device.
-ghost use Rattle.std.specs.Prelude.{◌≡◌, ◌<◌, [], Some, IsSome, IfSome};
+ghost use Rattle.std.specs.Prelude.{◌≡◌, ◌<◌, IfOk};
+ghost use Rattle.keel_disk.specs.Rule.{IsAllowed};
+ghost use Rattle.keel_disk.specs.Told.{Arranges};
 ghost use Rattle.keel_machine.specs.declared.answers.Outcome.TheVariants.{Waiting};
+ghost use Rattle.keel_machine.specs.Turns as event;
 ghost use Rattle.keel_machine.specs.Turns.{Admitting, Getting, TakingOutcome};
-ghost use Rattle.keel_core.specs.Orders.{IsAdmissible};
-ghost use Rattle.keel_core.specs.Views.{Turns, point_in, calls_left};
+ghost use Rattle.keel_core.specs.Views.{Turns, point_in, calls_left, with_told};
 
 use crate::log::OwnLog;
-use crate::lookup::latest_value;
+use crate::lookup::{latest_value, value_read};
 use crate::queue::{Queue, Ticketed};
+use crate::sizes::size_refusal;
 use crate::trail::Trail;
-use keel_base::{Batch, Bytes, Counter, Failure};
-use keel_disk::Disk;
+use keel_base::{Batch, Bytes, Counter, Failure, Listing, OutOfMemory};
+use keel_disk::{Device, Disk, DiskError, Rule};
 use keel_machine::{Admit, Got, Outcome};
 use std::alloc::Global;
 use std::marker::Model;
@@ -41,7 +44,7 @@ impl<D: Disk> Model for Core<D> {
     ghost Value = { CoreView };
 
     ghost view = { λ c. record {
-      device = seen (D.told c.disk) (D.changes c.disk) (D.faults c.disk) (D.last_fault c.disk);
+      device = seen (D.told c.disk) (D.changes c.disk) (D.faults c.disk) (D.last_fault c.disk) (D.is_simulated c.disk);
       trail = shown c.trail;
       stage = c.log;
       waiting = c.queue.waiting;
@@ -64,16 +67,18 @@ impl<D: Disk> Core<D> {
         self.last_seq
     }
 
-    /// The batches since the opening.
+    /// The batches that the opening read, and those since.
     pub fn trail(&self) -> &Trail {
         &self.trail
     }
 
     /// Takes a batch in, where nothing refuses it. A batch that isn't queued is dropped.
     pub fn admit(&mut self, batch: Batch) -> Admit
-        requires { IsAdmissible batch }
         ensures turn { Turns self.old (Admitting batch result) self.new }
     {
+        if let Some(refusal) = size_refusal(&batch) {
+            return refusal;
+        }
         match self.standing {
             Some(failure) => return Admit::Stopped(failure),
             None => {}
@@ -110,7 +115,8 @@ impl<D: Disk> Core<D> {
     pub fn get(&mut self, alloc: Global, key: &[u8]) -> Got
         ensures turn { Turns self.old (Getting key.now result) self.new }
     {
-        match latest_value(self.trail.log(), key) {
+        let before = value_read(self.trail.read(), key);
+        match latest_value(before, self.trail.log(), key) {
             Some(value) => match Bytes::from_slice(alloc, value) {
                 Ok(copy) => Got::Value(copy),
                 Err(_) => Got::OutOfMemory,
@@ -119,13 +125,41 @@ impl<D: Disk> Core<D> {
         }
     }
 
+    /// The files of the directory with their sizes, in the order of their printed names.
+    pub fn list(&mut self, alloc: Global) -> Result<Listing, DiskError>
+        ensures turn { Turns self.old (event.Listing result) self.new }
+    {
+        self.disk.list(alloc)
+    }
+
     /// Hands the device back. It makes no call.
     pub fn finish(self) -> D
         ensures told { D.told result ≡ self.device.told }
         ensures changes { D.changes result ≡ self.device.changes }
         ensures faults { D.faults result ≡ self.device.faults }
         ensures last_fault { D.last_fault result ≡ self.device.last_fault }
+        ensures simulated { D.is_simulated result ≡ self.device.simulated }
     {
         self.disk
+    }
+}
+
+impl<D: Device> Core<D> {
+    /// Whether failures and crashes can be arranged on the device.
+    pub fn simulated(&self) -> bool
+        ensures { result ≡ self.now.device.simulated }
+    {
+        self.disk.simulated()
+    }
+
+    /// Arranges how calls of the device are to fail, or how much it holds, where that can be arranged. Only the
+    /// device's room may change.
+    pub fn arrange(&mut self, alloc: Global, rule: Rule) -> Result<bool, OutOfMemory>
+        requires { IsAllowed rule }
+        ensures answer { IfOk result (λ done. done ≡ self.old.device.simulated) }
+        ensures told { Arranges self.old.device.told result self.new.device.told }
+        ensures same { self.new ≡ with_told self.new.device.told self.old }
+    {
+        self.disk.arrange(alloc, rule)
     }
 }

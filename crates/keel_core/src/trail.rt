@@ -1,12 +1,14 @@
-// The batches since the opening.
+// The batches that the opening read, and those since.
 ghost use Rattle.std.specs.Prelude.{◌≡◌, ◌+◌, ◌<◌, ◌≤◌, vec_len, vec_capacity, OnOk};
 
-use keel_base::Batch;
+use keel_base::{Batch, Sequence};
+use keel_batch::Numbered;
 use std::alloc::{AllocError, Global};
 
-/// The batches that were handed to the store's log since the opening, and how many of them are published.
+/// The batches that the opening read, those that were handed to the store's log since, and how many of these are published.
 #[derive(Drop)]
 pub struct Trail {
+    read: Sequence<Numbered>,
     batches: Vec<Batch>,
     published: usize,
     floor: usize,
@@ -17,17 +19,25 @@ pub struct Trail {
 impl Trail {
     ghost use Rattle.keel_core.specs.Trails.{TrailShown, shown, handed, published as all_published, IsEmptyTrail};
 
-    pub(crate) fn new(alloc: Global) -> Trail
-        ensures { IsEmptyTrail result }
+    pub(crate) fn new(alloc: Global, read: Sequence<Numbered>) -> Trail
+        ensures { IsEmptyTrail read result }
     {
         Trail {
+            read,
             batches: Vec::new(alloc),
             published: 0,
             floor: 0,
         }
     }
 
-    /// The published batches, in their order.
+    /// The batches that the opening read, in their order.
+    pub fn read(&self) -> &[Numbered]
+        ensures { result.now ≡ (shown self.now).read }
+    {
+        self.read.as_slice()
+    }
+
+    /// The batches that were published since, in their order.
     pub fn log(&self) -> &[Batch]
         ensures { result.now ≡ (shown self.now).log }
     {

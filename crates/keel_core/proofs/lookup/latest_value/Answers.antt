@@ -1,14 +1,9 @@
-use Rattle.std.proofs.Common.{◌≡◌, ℕ, suc, ◌+◌, ◌<◌, List, ◌∷◌, length, drop, get_or, refl, sym, ap, ◌∙◌, add-one}
+use Rattle.std.proofs.Common.{◌≡◌, ℕ, suc, ◌+◌, ◌<◌, List, ◌∷◌, length, drop, get_or, sym, ap, ◌∙◌, add-one}
 use Rattle.std.proofs.Math.Seq.{drop-cons}
-use Rattle.std.specs.FinMap.{get-empty}
 use Rattle.keel_base.specs.declared.op.Batch.{Batch}
-use Rattle.keel_base.specs.Keys.{key_cmp}
-use Rattle.keel_base.specs.Points.{Point, origin, after_batch, fold_batches}
+use Rattle.keel_base.specs.Points.{Point, after_batch, fold_batches}
 use Rattle.keel_machine.specs.Admission.{ops_of}
 use Rattle.keel_core.proofs.lookup.latest_value.Goals as goal
-
-pub loop-batch-init : goal.loop-batch-init
-loop-batch-init c = (origin, sym (get-empty key_cmp c.args.key.now), refl)
 
 -- the batches from an index on are the one there and those behind it
 next_batch : (now : Point) (batches : List Batch) (i : ℕ) (batch : Batch) → i < length batches → batch ≡ get_or batches i batch
@@ -18,8 +13,8 @@ next_batch now batches i batch lt is =
     ap (λ (l : List Batch). fold_batches now (ops_of l)) first
 
 pub loop-batch-preserved : goal.loop-batch-preserved
-loop-batch-preserved c =
-    let old = c.loop-batch.invariant in
+loop-batch-preserved c point starts =
+    let old = c.loop-batch.invariant point starts in
     let batch = c.batch-item.result in (
       after_batch old.0 batch.ops,
       rw c.as_slice.ensures at (c.value_behind-found.ensures old.0.values old.1),

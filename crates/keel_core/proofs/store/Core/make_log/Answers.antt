@@ -12,7 +12,7 @@ returns-in-Ok-clause-turn g c =
     rw (← c.self.view_is, q.waiting, q.group, q.job, q.outcomes, q.last_ticket)
     (log_made_at _ _ _ w.queue.outcomes.items w.queue.last_ticket w.standing w.log w.queue.waiting w.queue.group w.queue.job w.next_file
     stage c.self.invariant.staged can.some
-    (record { leaves = c.in-Ok.ensures.step; count = c.in-Ok.ensures.count; cause = c.in-Ok.ensures.cause }))
+    (record { leaves = c.in-Ok.ensures.step; count = c.in-Ok.ensures.count; cause = c.in-Ok.ensures.cause; simulated = c.in-Ok.ensures.simulated }))
 
 pub returns-in-Err-Fault-clause-turn : goal.returns-in-Err-Fault-clause-turn
 returns-in-Err-Fault-clause-turn g c =
@@ -24,7 +24,7 @@ returns-in-Err-Fault-clause-turn g c =
     rw (← c.self.view_is, c.fail.ensures.view, c.fail.ensures.step, q.waiting, q.group, q.job, q.outcomes, q.last_ticket)
     (log_failed_at _ _ _ w.queue.outcomes.items w.queue.last_ticket w.standing w.log w.queue.waiting w.queue.group w.queue.job w.next_file c.in-Err-Fault.fault
     stage c.self.invariant.staged can.some
-    (record { leaves = answered.step; count = answered.count; cause = answered.cause }))
+    (record { leaves = answered.step; count = answered.count; cause = answered.cause; simulated = answered.simulated }))
 
 pub returns-in-Err-OutOfMemory-clause-turn : goal.returns-in-Err-OutOfMemory-clause-turn
 returns-in-Err-OutOfMemory-clause-turn g c =
@@ -32,4 +32,4 @@ returns-in-Err-OutOfMemory-clause-turn g c =
     let answered = rw c.in-Err-OutOfMemory.field-0-is at c.in-Err-OutOfMemory.ensures in
     rw (← c.self.view_is)
     (want_at _ _ _ w.queue.outcomes.items w.queue.last_ticket w.standing (Create (Log w.next_file)) w.log w.queue.waiting w.queue.group w.queue.job w.next_file
-    (record { leaves = answered.step; count = answered.count; cause = answered.cause }))
+    (record { leaves = answered.step; count = answered.count; cause = answered.cause; simulated = answered.simulated }))
