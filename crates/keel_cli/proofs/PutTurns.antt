@@ -16,8 +16,8 @@ use Rattle.keel_machine.specs.Tests.{first_some, when}
 use Rattle.keel_machine.specs.Turns.{after, Admitting, Writing, TakingOutcome}
 use Rattle.keel_machine.specs.Writing.{rest_in_group}
 use Rattle.keel_core.specs.Views.{CoreView, StandsFor, Turns}
-use Rattle.keel_cli.specs.declared.reply.Reply.{Reply}
-use Rattle.keel_cli.specs.declared.reply.Reply.TheVariants as reply
+use Rattle.keel_script.specs.declared.reply.Reply.{Reply}
+use Rattle.keel_script.specs.declared.reply.Reply.TheVariants as reply
 use Rattle.keel_cli.specs.Places.{AreTold, CoreLeads}
 use Rattle.keel_cli.specs.Puts.{Queues, PutRun, PutCut, refusal_replies, outcome_replies}
 use Rattle.keel_cli.proofs.Tickets.{KnownIn, state_at, stands_at, told_in, told_filter, fine_in, queued_fine, write_fine, Known, told_known, waits_known}
@@ -39,6 +39,7 @@ refused_cut old new batch turns s stands =
 
 admit_told : (s : State) (batch : Batch) (answer : Admit) → AreTold s.writing.outcomes → AreTold (admit_after s batch answer).writing.outcomes
 admit_told s batch (admit.Queued ticket) told = told
+admit_told s batch (admit.BadSize part size) told = told
 admit_told s batch (admit.Stopped failure) told = told
 admit_told s batch (admit.Spent counter) told = told
 admit_told s batch (admit.QueueFull waiting) told = told
@@ -165,3 +166,13 @@ no_rest s (Some group) job current is = no_cancel_in _ job current is
 pub never_cancelled : (core new : CoreView) (job current : ℕ) → Turns core (Writing None (step.Cancelled job current)) new → ⊥
 never_cancelled core new job current turns =
     no_rest (state_at core) (state_at core).jobs.write.running job current (turns.goes (state_at core) (stands_at core)).0.first
+
+-- ---- of one op, no count and no weight is refused
+
+no_part : {A : Type 0} (x y : A) → (x ≡ y → ⊥) → (rest : Option A) → first_some (Some x ∷ rest ∷ []) ≡ Some y → ⊥
+no_part x y differs rest e = differs cc
+
+one_of : (ops : List Op) → length ops ≡ 1 → (op : Op) × (ops ≡ op ∷ [])
+one_of [] one = absurd (omega (arith, one))
+one_of (op ∷ []) one = (op, refl)
+one_of (op ∷ next ∷ ops) one = absurd (omega (arith, one))

@@ -3,7 +3,6 @@ use Rattle.std.proofs.Common.{◌≡◌, ◌≢◌, ◌⊎◌, ℕ, ◌+◌, ◌
 use Rattle.std.proofs.lemmas.List.{map-append}
 use Rattle.std.specs.List.{list_any}
 use Rattle.std.proofs.lemmas.List.Folds.{list_any-append}
-use Rattle.keel_base.specs.Points.{origin}
 use Rattle.keel_base.specs.declared.failure.Failure.{Failure}
 use Rattle.keel_base.specs.declared.op.Batch.{Batch}
 use Rattle.keel_machine.specs.declared.answers.Outcome.{Outcome}
@@ -21,7 +20,7 @@ use Rattle.keel_cli.specs.Places.{IsTold, AreTold}
 -- ---- a state that the core stands for
 
 abbrev pub story_of : TrailShown → Story
-story_of trail = record { start = origin; log = ops_of trail.log; limbo = ops_of trail.limbo; floor = trail.floor }
+story_of trail = record { start = trail.base; log = ops_of trail.log; limbo = ops_of trail.limbo; floor = trail.floor }
 
 abbrev pub state_at : CoreView → State
 state_at view = state_of view (story_of view.trail) (option_to_list view.standing)
@@ -241,6 +240,54 @@ write_fine ticket step.Idle s told holds = record { told = told; known = inl hol
 write_fine ticket (step.Spent counter) s told holds = record { told = told; known = inl holds }
 write_fine ticket (step.Cancelled job current) s told holds = record { told = told; known = inl holds }
 write_fine ticket step.OutOfMemory s told holds = record { told = told; known = inl holds }
+
+-- ---- outcomes stay told, whatever the tickets
+
+goes_on_told : (sync : Bool) (group : Group) (later : List Act) (s : State) → AreTold s.writing.outcomes → AreTold (goes_on sync group later s).writing.outcomes
+goes_on_told sync group [] s told = told_append s.writing.outcomes _ told (told_given _ group.tickets tt)
+goes_on_told sync group (act ∷ later) s told = told
+
+act_done_told : (act : Act) (group : Group) (later : List Act) (s : State) → AreTold s.writing.outcomes → AreTold (act_done act group later s).writing.outcomes
+act_done_told MakeLog group later s told = goes_on_told false (record group { log = Some s.numbers.next_file }) later (file_drawn s) told
+act_done_told SyncDirectory group later s told = goes_on_told false (record group { log = None }) later (record s { log = own_log group.log }) told
+act_done_told AddRecords group later s told =
+    goes_on_told false (record group { batches = [] }) later (record s {
+      log = log_longer (length (group_bytes s group)) s.log;
+      story = handed_over (ops_of group.batches) s.story;
+    }) told
+act_done_told SyncLog group later s told = goes_on_told true group later s told
+
+act_failed_told : (act : Act) (group : Group) (failure : Failure) (s : State) → AreTold s.writing.outcomes → AreTold (act_failed act group failure s).writing.outcomes
+act_failed_told MakeLog group failure s told = told_append s.writing.outcomes _ told (told_given (outcome.Failed failure) group.tickets tt)
+act_failed_told SyncDirectory group failure s told = told_append s.writing.outcomes _ told (told_given (outcome.Failed failure) group.tickets tt)
+act_failed_told AddRecords group failure s told = told_append s.writing.outcomes _ told (told_given (outcome.Failed failure) group.tickets tt)
+act_failed_told SyncLog group failure s told = told_append s.writing.outcomes _ told (told_given (outcome.Failed failure) group.tickets tt)
+
+first_done_told : (group : Group) (left : List Act) (s : State) → AreTold s.writing.outcomes → AreTold (first_done group left s).writing.outcomes
+first_done_told group [] s told = told
+first_done_told group (act ∷ later) s told = act_done_told act group later s told
+
+group_done_told : (running : Option Group) (s : State) → AreTold s.writing.outcomes → AreTold (group_done running s).writing.outcomes
+group_done_told None s told = told
+group_done_told (Some group) s told = first_done_told group group.left s told
+
+first_failed_told : (group : Group) (left : List Act) (failure : Failure) (s : State) → AreTold s.writing.outcomes → AreTold (first_failed group left failure s).writing.outcomes
+first_failed_told group [] failure s told = told
+first_failed_told group (act ∷ later) failure s told = act_failed_told act group failure s told
+
+group_failed_told : (running : Option Group) (failure : Failure) (s : State) → AreTold s.writing.outcomes → AreTold (group_failed running failure s).writing.outcomes
+group_failed_told None failure s told = told
+group_failed_told (Some group) failure s told = first_failed_told group group.left failure s told
+
+pub write_told : (made : WriteStep) (s : State) → AreTold s.writing.outcomes → AreTold (write_after s made).writing.outcomes
+write_told (step.Moved job call) s told = group_done_told (ready s).jobs.write.running (ready s) (ready_told s.jobs.write.running s.writing.waiting s refl told)
+write_told (step.Done job seq batches) s told = group_done_told (ready s).jobs.write.running (ready s) (ready_told s.jobs.write.running s.writing.waiting s refl told)
+write_told (step.Failed failure) s told = group_failed_told (ready s).jobs.write.running failure (ready s) (ready_told s.jobs.write.running s.writing.waiting s refl told)
+write_told (step.Turned batches failure) s told = told_append s.writing.outcomes _ told (told_given (outcome.Turned failure) (waiting_tickets s) tt)
+write_told step.Idle s told = told
+write_told (step.Spent counter) s told = told
+write_told (step.Cancelled job current) s told = told
+write_told step.OutOfMemory s told = told
 
 -- a ticket that was just given is on its way
 pub queued_fine : (batch : Batch) (s : State) → AreTold s.writing.outcomes → Fine (s.writing.last_ticket + 1) (queued batch s)

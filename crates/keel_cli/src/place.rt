@@ -179,19 +179,9 @@ fn rest_reply(is_open: bool, command: &Command) -> Option<Reply>
     ensures { result ≡ rest_reply is_open command.now }
 {
     match command {
-        Command::Open => {
-            if is_open {
-                Some(Reply::IsOpen)
-            } else {
-                None
-            }
-        }
+        Command::Open => { if is_open { Some(Reply::IsOpen) } else { None } }
         Command::Put { .. } | Command::Del { .. } | Command::Get { .. } | Command::Drain { .. } => {
-            if is_open {
-                None
-            } else {
-                Some(Reply::NotOpen)
-            }
+            if is_open { None } else { Some(Reply::NotOpen) }
         }
         Command::Files | Command::Crash { .. } => None,
         _ => Some(Reply::NotBuilt),
