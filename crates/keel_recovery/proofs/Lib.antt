@@ -20,6 +20,7 @@ pub mod Turning
 pub mod Kept
 pub mod Restarted
 pub mod Crashing
+pub mod Readable
 pub mod GoingOn
 pub mod Machine
 pub mod Examples

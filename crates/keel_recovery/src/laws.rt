@@ -2,7 +2,7 @@
 ghost use Rattle.keel_recovery.specs.Laws.{CoveringStands, CrashLeavesPrefix, FirstOpening, OneReading, OpeningCovers, OpeningFindsPrefix, OpeningFindsPublished, ReadingLeavesPrefix};
 ghost use Rattle.keel_recovery.specs.Laws.{AppendCovers, CreateCovers, PublishCovers, SyncCovers, SyncDirCovers};
 ghost use Rattle.keel_recovery.specs.Laws.{InsideAppend, InsideCreate, InsideSync, InsideSyncDir};
-ghost use Rattle.keel_recovery.specs.Machine.{CoveredReads, CoveredStands, CrashTurns, StartsCovered, TurnKeeps};
+ghost use Rattle.keel_recovery.specs.Machine.{CoveredReads, CoveredStands, CrashTurns, OpeningGoesOn, StartsCovered, TurnKeeps};
 ghost use Rattle.keel_recovery.specs.Worked.{FirstBatch, TwoPuts};
 
 /// A device that an open store covers stands for its story.
@@ -113,6 +113,11 @@ pub fn crash_turns()
 /// Where a machine's story goes on, the directory of its covered device reads as the point that it leads to.
 pub fn covered_reads()
     ensures { CoveredReads }
+{}
+
+/// An opening that goes on with a machine's story is refused for a fault of the device or for want of memory alone.
+pub fn opening_goes_on()
+    ensures { OpeningGoesOn }
 {}
 
 /// What a crash may leave of two puts, of which the first was synced.
