@@ -23,4 +23,5 @@ pub mod Crashing
 pub mod Readable
 pub mod GoingOn
 pub mod Machine
+pub mod InsideStep
 pub mod Examples

@@ -74,7 +74,7 @@ open_is Unopened h = cc
 open_is Closed h = cc
 open_is Open h = refl
 
-covered_open : (s : State) → is_open s.mode ≡ true → IsCovered s → IsCoveredBy s.footing Open s.device.told s
+pub covered_open : (s : State) → is_open s.mode ≡ true → IsCovered s → IsCoveredBy s.footing Open s.device.told s
 covered_open s is h = subst (λ (m : Mode). IsCoveredBy s.footing m s.device.told s) (open_is s.mode is) h
 
 -- where a store is open before and behind

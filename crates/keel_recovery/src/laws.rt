@@ -2,7 +2,7 @@
 ghost use Rattle.keel_recovery.specs.Laws.{CoveringStands, CrashLeavesPrefix, FirstOpening, OneReading, OpeningCovers, OpeningFindsPrefix, OpeningFindsPublished, ReadingLeavesPrefix};
 ghost use Rattle.keel_recovery.specs.Laws.{AppendCovers, CreateCovers, PublishCovers, SyncCovers, SyncDirCovers};
 ghost use Rattle.keel_recovery.specs.Laws.{InsideAppend, InsideCreate, InsideSync, InsideSyncDir};
-ghost use Rattle.keel_recovery.specs.Machine.{CoveredReads, CoveredStands, CrashTurns, OpeningGoesOn, StartsCovered, TurnKeeps};
+ghost use Rattle.keel_recovery.specs.Machine.{CoveredReads, CoveredStands, CrashTurns, InsideStep, OpeningGoesOn, StartsCovered, TurnKeeps};
 ghost use Rattle.keel_recovery.specs.Worked.{FirstBatch, TwoPuts};
 
 /// A device that an open store covers stands for its story.
@@ -108,6 +108,11 @@ pub fn covered_stands()
 /// Whatever a crash leaves of a machine's covered device is a turn of the machine.
 pub fn crash_turns()
     ensures { CrashTurns }
+{}
+
+/// A crash inside the call of a machine's write step, whatever the answer.
+pub fn inside_step()
+    ensures { InsideStep }
 {}
 
 /// Where a machine's story goes on, the directory of its covered device reads as the point that it leads to.
