@@ -24,4 +24,5 @@ pub mod Readable
 pub mod GoingOn
 pub mod Machine
 pub mod InsideStep
+pub mod Forging
 pub mod Examples

@@ -159,7 +159,7 @@ footing_started : (waiting : List Ticketed) (s : State) → (started waiting s).
 footing_started [] s = refl
 footing_started (first ∷ rest) s = refl
 
-footing_started_or : (running : Option Group) (s : State) → (started_or running s).footing ≡ s.footing
+pub footing_started_or : (running : Option Group) (s : State) → (started_or running s).footing ≡ s.footing
 footing_started_or None s = footing_started s.writing.waiting s
 footing_started_or (Some group) s = refl
 
@@ -174,7 +174,7 @@ footing_first_done group (AddRecords ∷ next ∷ later) s = refl
 footing_first_done group (SyncLog ∷ []) s = refl
 footing_first_done group (SyncLog ∷ next ∷ later) s = refl
 
-footing_done : (running : Option Group) (s : State) → (group_done running s).footing ≡ s.footing
+pub footing_done : (running : Option Group) (s : State) → (group_done running s).footing ≡ s.footing
 footing_done None s = refl
 footing_done (Some group) s = footing_first_done group group.left s
 
@@ -185,7 +185,7 @@ footing_first_failed group (SyncDirectory ∷ later) failure s = refl
 footing_first_failed group (AddRecords ∷ later) failure s = refl
 footing_first_failed group (SyncLog ∷ later) failure s = refl
 
-footing_failed : (running : Option Group) (failure : Failure) (s : State) → (group_failed running failure s).footing ≡ s.footing
+pub footing_failed : (running : Option Group) (failure : Failure) (s : State) → (group_failed running failure s).footing ≡ s.footing
 footing_failed None failure s = refl
 footing_failed (Some group) failure s = footing_first_failed group group.left failure s
 

@@ -1,5 +1,5 @@
 -- The states of the machine whose device stands for their story, and that every turn keeps them so.
-use Rattle.std.specs.Prelude.{◌≡◌, ◌≢◌, ◌⊎◌, ℕ, ◌≤◌, Bool, true, false, List, [], ◌∷◌, ◌++◌, Option, Some, None, map, if◌then◌else◌, Err, Ok}
+use Rattle.std.specs.Prelude.{◌≡◌, ◌≢◌, ◌⊎◌, ℕ, ◌-◌, ◌^◌, ◌<◌, ◌≤◌, Bool, true, false, List, [], ◌∷◌, ◌++◌, Option, Some, None, map, if◌then◌else◌, Err, Ok}
 use Rattle.keel_base.specs.declared.failure.Failure.{Failure}
 use Rattle.keel_base.specs.declared.failure.Fault.{Fault}
 use Rattle.keel_base.specs.declared.memory.OutOfMemory.{OutOfMemory}
@@ -214,3 +214,17 @@ InsideStep =
     (s : State) (told : Told) (held : Option ℕ) (group : Group) (act : Act) (later : List Act) (failed : Option Fault) (device : Seen)
     → is_open s.mode ≡ true → s.footing ≡ Known → IsCovered s → s.device.told ≡ Some told → MadeCall s held group act later failed device
     → InsideCall told.state (change_of (ready s) group act) s.story (story_behind s failed)
+
+-- how many crashes left a forged image, as far as the device tells it
+abbrev pub forged_of : Option Told → ℕ
+forged_of None = 0
+forged_of (Some told) = told.forged
+
+-- The count of forged images is so much at least, and it is more where the device isn't known to bear out the story.
+pub record IsCounted (first : ℕ) (s : State) : Type 0 where
+  pub least : first ≤ forged_of s.device.told
+  pub risen : (s.footing ≡ Known) ⊎ (first < forged_of s.device.told)
+
+-- Every turn keeps that. So a device that was known, and whose count hasn't risen since, is known still.
+abbrev pub FootingStays : Type 0
+FootingStays = (first : ℕ) (s next : State) (event : Event) → first < 2 ^ 64 - 1 → Turn s event next → IsCounted first s → IsCounted first next
