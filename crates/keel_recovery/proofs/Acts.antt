@@ -12,7 +12,7 @@ use Rattle.keel_recovery.specs.Machine.{calls_from_append, AwaitsAppend, AwaitsS
 use Rattle.keel_recovery.proofs.Tests.{none_some}
 use Rattle.keel_recovery.proofs.Places.{went_well, went_wrong, make_done, sync_dir_done, add_done, add_published, sync_done, make_failed, sync_dir_failed, add_failed, sync_failed}
 
-first_act : (left : List Act) (act first : Act) (later others : List Act) → left ≡ act ∷ later → left ≡ first ∷ others → act ≡ first
+pub first_act : (left : List Act) (act first : Act) (later others : List Act) → left ≡ act ∷ later → left ≡ first ∷ others → act ≡ first
 first_act left act first later others e k = cc
 
 module _ (device : Seen) (footing : Footing) (mode : Mode) (story : Story) (writing : Writing) (number : ℕ) (running : Option Group) (next_file : ℕ) (tickets : List ℕ) (batches : List Batch) (before after : Disk) where

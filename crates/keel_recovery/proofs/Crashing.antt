@@ -1,24 +1,21 @@
 -- A crash of the machine's device.
-use Rattle.std.proofs.Common.{◌≡◌, inl, inr, ⊎_elim, ℕ, ◌+◌, ◌≤◌, true, false, List, [], ◌++◌, length, take, Option, Some, None, Ok, refl, sym, ap, subst, ◌∙◌, arith, take_all}
+use Rattle.std.proofs.Common.{◌≡◌, ⊎_elim, ℕ, ◌≤◌, true, List, [], ◌++◌, length, take, Option, Some, None, Ok, refl, sym, ap, subst, ◌∙◌, arith, take_all}
 use Rattle.std.proofs.lemmas.List.{append-nil, length-append, length-take}
-use Rattle.keel_base.specs.Counts.{raised}
-use Rattle.keel_base.specs.Points.{Point, fold_batches}
+use Rattle.keel_base.specs.Points.{fold_batches}
 use Rattle.keel_base.specs.declared.memory.OutOfMemory.{OutOfMemory}
-use Rattle.keel_base.specs.declared.op.Op.{Op}
 use Rattle.keel_disk.specs.Directory.{Named}
 use Rattle.keel_disk.specs.Image.{restarted}
-use Rattle.keel_disk.specs.Plain.{ArePlain, PlainImage, image_read}
-use Rattle.keel_disk.specs.State.{State as Disk, settled_through}
+use Rattle.keel_disk.specs.Plain.{PlainImage, image_read}
+use Rattle.keel_disk.specs.State.{State as Disk}
 use Rattle.keel_disk.specs.Sound.{IsOneToOne, IsAtRest}
 use Rattle.keel_disk.specs.Told.{Told, Crashes, CrashedTo}
-use Rattle.keel_machine.specs.Crash.{LeavesPlain, LeavesForged, IsPrefix, LeavesOf, Leaves, CrashAnswers, mode_crashed, crash_after}
+use Rattle.keel_machine.specs.Crash.{LeavesPlain, IsPrefix, LeavesOf, Leaves, CrashAnswers, mode_crashed, crash_after}
 use Rattle.keel_machine.specs.States.{State, Seen, Footing, Known, Unknown, Mode, Unopened, Closed, Open, Story, cut_story, point_of, with_device}
 use Rattle.keel_reading.specs.Reading.{Reads}
-use Rattle.keel_recovery.specs.Crashing.{IsAfterCrash, LeavesPrefix}
-use Rattle.keel_recovery.specs.Machine.{stage_of, IsKept, IsLeft, HoldsBy, IsCoveredBy, IsCovered, CrashTurns, Drops}
-use Rattle.keel_recovery.specs.Standing.{InPrefixes, ReadsIn, Stands}
+use Rattle.keel_recovery.specs.Machine.{stage_of, IsLeft, HoldsBy, IsCoveredBy, IsCovered, CrashTurns}
+use Rattle.keel_recovery.specs.Standing.{ReadsIn, Stands}
 use Rattle.keel_recovery.proofs.Covers.{stands}
-use Rattle.keel_recovery.proofs.Crashed.{reading_leaves, read_restarted}
+use Rattle.keel_recovery.proofs.Crashed.{reading_leaves}
 use Rattle.keel_recovery.proofs.Opened.{rest_stands}
 use Rattle.keel_recovery.proofs.Restarted.{rests_behind}
 

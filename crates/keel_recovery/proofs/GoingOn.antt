@@ -1,16 +1,19 @@
 -- An opening that goes on with a story.
-use Rattle.std.proofs.Common.{◌≡◌, ℕ, true, false, List, [], ◌++◌, take, Option, Some, None, Err, refl, sym, ap, subst, ◌∙◌, take_all}
+use Rattle.std.proofs.Common.{◌≡◌, true, List, ◌++◌, take, Option, Some, None, Err, ap, subst, ◌∙◌, take_all}
 use Rattle.std.proofs.lemmas.List.{append-nil}
-use Rattle.keel_base.specs.Points.{Point, fold_batches}
+use Rattle.keel_base.specs.Points.{fold_batches}
 use Rattle.keel_base.specs.declared.op.Op.{Op}
 use Rattle.keel_disk.specs.Told.{Told}
 use Rattle.keel_disk.specs.Plain.{image_read}
-use Rattle.keel_disk.specs.State.{State as Disk}
 use Rattle.keel_machine.specs.Opening.{continues}
 use Rattle.keel_machine.specs.States.{State, Footing, Known, Unknown, Mode, Unopened, Closed, Open, Story, point_of}
+use Rattle.keel_reading.specs.declared.refusal.OpenRefusal.{OpenRefusal}
+use Rattle.keel_reading.specs.declared.refusal.OpenRefusal.TheVariants as refusal
+use Rattle.keel_reading.specs.Answers.{ReadAnswers, NamesOther}
 use Rattle.keel_reading.specs.Reading.{Reads}
 use Rattle.keel_reading.proofs.Founding.{sound_names}
-use Rattle.keel_recovery.specs.Machine.{IsLeft, IsCoveredBy, IsCovered, ReadsOn, ReadsOnIn, CoveredReads}
+use Rattle.keel_recovery.specs.Machine.{IsLeft, IsCoveredBy, ReadsOn, ReadsOnIn, CoveredReads, IsOfDevice, OpeningGoesOn}
+use Rattle.keel_recovery.proofs.Readable.{no_bad_log, no_gap, no_other}
 
 left_reads : (told : Told) (story : Story) → IsLeft told.state story → ReadsOn told story
 left_reads told story h =
@@ -35,3 +38,20 @@ reads_by Known Closed (Some told) s goes h = left_reads told s.story h
 
 pub covered_reads : CoveredReads
 covered_reads s goes h = reads_by s.footing s.mode s.device.told s goes h
+
+-- ---- what refuses it
+
+not_refused : (told : Told) (story : Story) (refused_by : OpenRefusal) → ReadsOn told story → ReadAnswers (Some told) (Err refused_by) → NamesOther (Some told) (Err refused_by) → IsOfDevice refused_by
+not_refused told story (refusal.Device fault) reads cause other = tt
+not_refused told story refusal.OutOfMemory reads cause other = tt
+not_refused told story (refusal.NoCurrent file) reads cause other = no_other told (point_of story) file reads.reads other
+not_refused told story (refusal.BadLog log at) reads cause other = no_bad_log (image_read told.state) (point_of story) log at reads.reads (cause reads.names)
+not_refused told story (refusal.LogGap log expected found) reads cause other =
+    no_gap (image_read told.state) (point_of story) log expected found reads.reads (cause reads.names)
+
+refused_for : (told : Option Told) (story : Story) (refused_by : OpenRefusal) → ReadsOnIn told story → ReadAnswers told (Err refused_by) → NamesOther told (Err refused_by) → IsOfDevice refused_by
+refused_for None story refused_by reads cause other = absurd reads
+refused_for (Some told) story refused_by reads cause other = not_refused told story refused_by reads cause other
+
+pub opening_goes_on : OpeningGoesOn
+opening_goes_on s refused_by device goes h answers = refused_for s.device.told s.story refused_by (covered_reads s goes h) answers.cause answers.other

@@ -1,6 +1,6 @@
 -- What a call of a group keeps of the device of an open store, besides that it is covered.
 use Rattle.std.specs.Prelude.{◌==◌, nat_le, not, ◌&&◌}
-use Rattle.std.proofs.Common.{◌≡◌, ℕ, ◌<◌, ◌≤◌, ◌^◌, Bool, true, false, List, [], ◌∷◌, length, Option, Some, None, option_map, refl, sym, ap, ◌∙◌, arith, is_some}
+use Rattle.std.proofs.Common.{◌≡◌, ℕ, ◌<◌, ◌≤◌, ◌^◌, Bool, true, false, List, [], ◌∷◌, length, Option, Some, None, option_map, refl, ap, ◌∙◌, arith, is_some}
 use Rattle.std.proofs.lemmas.Bool.{leb-false}
 use Rattle.keel_base.specs.declared.failure.Counter.TheVariants.{FileNumber, JobNumber}
 use Rattle.keel_base.specs.declared.failure.Failure.{Failure}
@@ -14,7 +14,7 @@ use Rattle.keel_machine.specs.declared.steps.WriteStep.TheVariants.{Idle, Spent}
 use Rattle.keel_machine.specs.Admission.{standing}
 use Rattle.keel_machine.specs.States.{State, OwnLog, Group, Ticketed, Act, MakeLog, SyncDirectory, AddRecords, SyncLog}
 use Rattle.keel_machine.specs.Tests.{when, differing}
-use Rattle.keel_machine.specs.Writing.{group_plan, formed, started, started_or, ready, turned_away, rest_before_group, draws, rest_in_group, cancelled, write_rest, change_of, log_number, group_bytes}
+use Rattle.keel_machine.specs.Writing.{group_plan, formed, started, started_or, ready, turned_away, draws, rest_in_group, cancelled, write_rest, change_of, log_number, group_bytes}
 use Rattle.keel_machine.specs.WritingAfter.{first_done, group_done, first_failed, group_failed}
 use Rattle.keel_recovery.specs.Steps.{Answer}
 use Rattle.keel_recovery.proofs.OneToOne.{one_create, one_sync_dir, one_append, one_sync}

@@ -20,6 +20,9 @@ pub mod Turning
 pub mod Kept
 pub mod Restarted
 pub mod Crashing
+pub mod Readable
 pub mod GoingOn
 pub mod Machine
+pub mod InsideStep
+pub mod Forging
 pub mod Examples

@@ -1,6 +1,6 @@
 -- Every turn of the machine keeps its device covered.
 use Rattle.std.specs.Prelude.{nat_lt, nat_le}
-use Rattle.std.proofs.Common.{◌≡◌, ◌≢◌, ℕ, ◌+◌, ◌^◌, ◌≤◌, Bool, true, false, List, [], ◌∷◌, ◌++◌, length, Option, Some, None, option_map, Ok, Err, refl, sym, ap, subst, ◌∙◌, ltb-false, arith}
+use Rattle.std.proofs.Common.{◌≡◌, ◌≢◌, ℕ, ◌+◌, ◌^◌, ◌≤◌, true, false, List, [], ◌∷◌, ◌++◌, length, Option, Some, None, option_map, Ok, Err, refl, sym, ap, subst, ◌∙◌, ltb-false, arith}
 use Rattle.keel_base.specs.Name.{IsName}
 use Rattle.keel_base.specs.Points.{Point}
 use Rattle.keel_base.specs.declared.failure.Counter.TheVariants.{Sequence, Ticket}
@@ -74,7 +74,7 @@ open_is Unopened h = cc
 open_is Closed h = cc
 open_is Open h = refl
 
-covered_open : (s : State) → is_open s.mode ≡ true → IsCovered s → IsCoveredBy s.footing Open s.device.told s
+pub covered_open : (s : State) → is_open s.mode ≡ true → IsCovered s → IsCoveredBy s.footing Open s.device.told s
 covered_open s is h = subst (λ (m : Mode). IsCoveredBy s.footing m s.device.told s) (open_is s.mode is) h
 
 -- where a store is open before and behind
@@ -159,7 +159,7 @@ footing_started : (waiting : List Ticketed) (s : State) → (started waiting s).
 footing_started [] s = refl
 footing_started (first ∷ rest) s = refl
 
-footing_started_or : (running : Option Group) (s : State) → (started_or running s).footing ≡ s.footing
+pub footing_started_or : (running : Option Group) (s : State) → (started_or running s).footing ≡ s.footing
 footing_started_or None s = footing_started s.writing.waiting s
 footing_started_or (Some group) s = refl
 
@@ -174,7 +174,7 @@ footing_first_done group (AddRecords ∷ next ∷ later) s = refl
 footing_first_done group (SyncLog ∷ []) s = refl
 footing_first_done group (SyncLog ∷ next ∷ later) s = refl
 
-footing_done : (running : Option Group) (s : State) → (group_done running s).footing ≡ s.footing
+pub footing_done : (running : Option Group) (s : State) → (group_done running s).footing ≡ s.footing
 footing_done None s = refl
 footing_done (Some group) s = footing_first_done group group.left s
 
@@ -185,7 +185,7 @@ footing_first_failed group (SyncDirectory ∷ later) failure s = refl
 footing_first_failed group (AddRecords ∷ later) failure s = refl
 footing_first_failed group (SyncLog ∷ later) failure s = refl
 
-footing_failed : (running : Option Group) (failure : Failure) (s : State) → (group_failed running failure s).footing ≡ s.footing
+pub footing_failed : (running : Option Group) (failure : Failure) (s : State) → (group_failed running failure s).footing ≡ s.footing
 footing_failed None failure s = refl
 footing_failed (Some group) failure s = footing_first_failed group group.left failure s
 

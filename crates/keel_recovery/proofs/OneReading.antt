@@ -31,14 +31,14 @@ same_read (x ∷ xs) (y ∷ ys) e =
     let later : xs ≡ ys = same_read xs ys (rest_same (Ok x) (Ok y) (all_read xs) (all_read ys) e) in
     λ i. first i ∷ later i
 
-said_once : (bytes : List ℕ) (xs ys : List Numbered) → Says bytes xs → Says bytes ys → xs ≡ ys
+pub said_once : (bytes : List ℕ) (xs ys : List Numbered) → Says bytes xs → Says bytes ys → xs ≡ ys
 said_once bytes xs ys a b =
     let p : Progress = record { place = a.end; done = a.all; begun = a.records.0 } in
     let q : Progress = record { place = b.end; done = b.all; begun = b.records.0 } in
     let same : a.all ≡ b.all = ap (λ (r : Progress). r.done) (one_reading bytes p q a.records.1 b.records.1) in
     same_read xs ys (sym a.each ∙ ap batches_in same ∙ b.each)
 
-logs_once : (bound : ℕ) (image : Named (List ℕ)) (xs ys : List Numbered) → LogsSay bound image xs → LogsSay bound image ys → xs ≡ ys
+pub logs_once : (bound : ℕ) (image : Named (List ℕ)) (xs ys : List Numbered) → LogsSay bound image xs → LogsSay bound image ys → xs ≡ ys
 logs_once zero image xs ys a b = a ∙ sym b
 logs_once (suc bound) image xs ys a b =
     let front = logs_once bound image a.0 b.0 a.2 b.2 in

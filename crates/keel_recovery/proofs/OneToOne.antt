@@ -1,10 +1,9 @@
 -- The calls of a store keep names and files one to one.
-use Rattle.std.specs.Prelude.{◌==◌, option_and_then, option_map, unwrap_or, IfSome, MatchOption, if◌then◌else◌, slice_set}
-use Rattle.std.proofs.Common.{◌≡◌, ℕ, ◌+◌, true, false, List, [], ◌∷◌, ◌++◌, All, length, take, drop, replicate, Option, Some, None, Result, Ok, Err, refl, sym, ap, subst, ◌∙◌, arith}
+use Rattle.std.specs.Prelude.{◌==◌, option_and_then, option_map, unwrap_or, IfSome, MatchOption, if◌then◌else◌}
+use Rattle.std.proofs.Common.{◌≡◌, ℕ, true, false, List, [], ◌∷◌, ◌++◌, length, take, drop, replicate, Option, Some, None, Ok, Err, sym, subst, ◌∙◌, arith}
 use Rattle.std.proofs.lemmas.List.{length-append, length-replicate, length-set}
 use Rattle.std.proofs.lemmas.List.Elements.{All-replicate}
 use Rattle.keel_base.specs.declared.file_name.FileName.{FileName}
-use Rattle.keel_base.specs.declared.file_name.FileName.TheVariants.{Log}
 use Rattle.keel_base.specs.declared.failure.Fault.{Fault}
 use Rattle.keel_base.specs.declared.failure.Fault.TheVariants.{Plain}
 use Rattle.keel_base.specs.Name.{IsName}

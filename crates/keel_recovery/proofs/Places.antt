@@ -46,7 +46,7 @@ counted_append [] rest = omega arith
 counted_append (ops ∷ front) rest = omega (arith, counted_append front rest)
 
 -- where none is in limbo, the group's batches come first
-first_limits : (last : ℕ) (limbo group waiting : List (List Op)) → limbo ≡ [] → AreBatches last (limbo ++ (group ++ waiting)) → AreBatches last group
+pub first_limits : (last : ℕ) (limbo group waiting : List (List Op)) → limbo ≡ [] → AreBatches last (limbo ++ (group ++ waiting)) → AreBatches last group
 first_limits last limbo group waiting none h = front_batches last group waiting (subst (λ (l : List (List Op)). AreBatches last (l ++ (group ++ waiting))) none h)
 
 handed_order : (last : ℕ) (limbo group waiting : List (List Op)) → AreBatches last (limbo ++ (group ++ waiting)) → AreBatches last ((limbo ++ group) ++ waiting)
@@ -65,7 +65,7 @@ published_order story waiting h =
 pub at_story : (point : Point) (trail : Trail) (stage : Stage) (state : Disk) (story : Story) → Covered point trail stage state story → Covered (point_of story) trail stage state story
 at_story point trail stage state story h = subst (λ (p : Point). Covered p trail stage state story) h.fits.point_is h
 
-limbo_of_trail : (point : Point) (trail : Trail) (stage : Stage) (state : Disk) (story : Story) → Covered point trail stage state story → story.limbo ≡ [] → trail.limbo ≡ []
+pub limbo_of_trail : (point : Point) (trail : Trail) (stage : Stage) (state : Disk) (story : Story) → Covered point trail stage state story → story.limbo ≡ [] → trail.limbo ≡ []
 limbo_of_trail point trail stage state story h none = sym h.fits.limbo_is ∙ none
 
 -- ---- calls that are answered Ok

@@ -1,6 +1,6 @@
 -- A batch that isn't refused for its sizes is within its limits.
 use Rattle.std.specs.Prelude.{nat_le, nat_lt, not, ◌&&◌}
-use Rattle.std.proofs.Common.{◌≡◌, ℕ, ◌≤◌, Bool, true, false, List, [], ◌∷◌, length, Option, None, refl, ◌∙◌, arith, ltb-false}
+use Rattle.std.proofs.Common.{◌≡◌, ℕ, ◌≤◌, Bool, true, false, List, [], ◌∷◌, length, Option, None, refl, arith, ltb-false}
 use Rattle.std.proofs.lemmas.Bool.{leb-true, not-false}
 use Rattle.std.specs.List.{AllByRecursion}
 use Rattle.keel_base.specs.declared.op.Batch.{Batch}

@@ -1,6 +1,6 @@
 -- What a write step and a queued batch do to the order of batches, where no call is made.
 use Rattle.std.specs.Prelude.{◌==◌, nat_le, not, ◌&&◌}
-use Rattle.std.proofs.Common.{◌≡◌, inl, ℕ, ◌+◌, ◌^◌, ◌≤◌, Bool, true, false, List, [], ◌∷◌, ◌++◌, length, Option, Some, None, option_map, refl, sym, ap, subst, ◌∙◌, arith, is_some}
+use Rattle.std.proofs.Common.{◌≡◌, inl, ℕ, ◌+◌, ◌^◌, ◌≤◌, List, [], ◌∷◌, ◌++◌, length, Option, Some, None, option_map, refl, sym, ap, subst, ◌∙◌, arith, is_some}
 use Rattle.std.proofs.lemmas.List.{append_assoc, append-nil, map-append}
 use Rattle.keel_base.specs.declared.failure.Failure.{Failure}
 use Rattle.keel_base.specs.declared.op.Batch.{Batch}
@@ -12,11 +12,11 @@ use Rattle.keel_machine.specs.declared.steps.WriteStep.{WriteStep}
 use Rattle.keel_machine.specs.declared.steps.WriteStep.TheVariants.{Idle, Spent}
 use Rattle.keel_machine.specs.Admission.{standing_of, standing, ops_of, count_ops, batches_of_group}
 use Rattle.keel_machine.specs.States.{State, Story, OwnLog, Group, Ticketed, point_of}
-use Rattle.keel_machine.specs.Tests.{first_some, when, differing}
+use Rattle.keel_machine.specs.Tests.{when, differing}
 use Rattle.keel_machine.specs.Writing.{group_plan, started, started_or, ready, turned_away, rest_in_group, cancelled, write_rest}
 use Rattle.keel_recovery.specs.Batches.{AreBatches}
 use Rattle.keel_recovery.specs.Machine.{ops_waiting, IsInOrder, IsCoveredIn, IsOpenCovered}
-use Rattle.keel_recovery.proofs.Tests.{none_some, none_first, none_later, none_mapped, none_when}
+use Rattle.keel_recovery.proofs.Tests.{none_some, none_first, none_later, none_mapped}
 use Rattle.keel_recovery.proofs.Numbering.{batches_append}
 use Rattle.keel_recovery.proofs.Places.{front_batches, counted_append}
 use Rattle.keel_recovery.proofs.Sizes.{IsWithinLimits}

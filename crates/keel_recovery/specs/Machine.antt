@@ -1,6 +1,7 @@
 -- The states of the machine whose device stands for their story, and that every turn keeps them so.
-use Rattle.std.specs.Prelude.{◌≡◌, ◌≢◌, ◌⊎◌, ℕ, ◌≤◌, Bool, true, false, List, [], ◌∷◌, ◌++◌, Option, Some, None, length, map, if◌then◌else◌, Err, Ok}
+use Rattle.std.specs.Prelude.{◌≡◌, ◌≢◌, ◌⊎◌, ℕ, ◌-◌, ◌^◌, ◌<◌, ◌≤◌, Bool, true, false, List, [], ◌∷◌, ◌++◌, Option, Some, None, map, if◌then◌else◌, Err, Ok}
 use Rattle.keel_base.specs.declared.failure.Failure.{Failure}
+use Rattle.keel_base.specs.declared.failure.Fault.{Fault}
 use Rattle.keel_base.specs.declared.memory.OutOfMemory.{OutOfMemory}
 use Rattle.keel_base.specs.declared.op.Batch.{Batch}
 use Rattle.keel_base.specs.declared.op.Op.{Op}
@@ -17,9 +18,11 @@ use Rattle.keel_machine.specs.Crash.{CrashAnswers}
 use Rattle.keel_machine.specs.Opening.{OpenAnswers, continues}
 use Rattle.keel_machine.specs.States.{State, Seen, Footing, Known, Unknown, Mode, Unopened, Closed, Open, Story, OwnLog, Group, Ticketed, Act, MakeLog, SyncDirectory, AddRecords, SyncLog, point_of}
 use Rattle.keel_machine.specs.Turns.{Event, Opening, Listing, Crashing, Finishing, Turn}
+use Rattle.keel_machine.specs.Writing.{ready, change_of}
+use Rattle.keel_machine.specs.WritingAfter.{MadeCall, call_done, call_failed, failure_of}
 use Rattle.keel_recovery.specs.Batches.{AreBatches}
 use Rattle.keel_recovery.specs.Covering.{Stage, NoLog, Created, Ready, Stopped, Trail, Covered}
-use Rattle.keel_recovery.specs.Crashing.{IsAfterCrash}
+use Rattle.keel_recovery.specs.Crashing.{IsAfterCrash, InsideCall}
 use Rattle.keel_recovery.specs.Standing.{Stands}
 
 abbrev pub is_open : Mode → Bool
@@ -198,3 +201,30 @@ abbrev pub OpeningGoesOn : Type 0
 OpeningGoesOn =
     (s : State) (refused : OpenRefusal) (device : Seen)
     → continues s.mode s.footing ≡ true → IsCovered s → OpenAnswers s (Err refused) device → IsOfDevice refused
+
+-- the story behind the call of a write step, answered Ok or with that fault
+abbrev pub story_behind : State → Option Fault → Story
+story_behind s None = (call_done s).story
+story_behind s (Some fault) = (call_failed (failure_of fault) s).story
+
+-- A crash inside the call of a write step: every plain image reads as a prefix of the story before the step, or of the one
+-- behind its answer, with all that must not be lost.
+abbrev pub InsideStep : Type 0
+InsideStep =
+    (s : State) (told : Told) (held : Option ℕ) (group : Group) (act : Act) (later : List Act) (failed : Option Fault) (device : Seen)
+    → is_open s.mode ≡ true → s.footing ≡ Known → IsCovered s → s.device.told ≡ Some told → MadeCall s held group act later failed device
+    → InsideCall told.state (change_of (ready s) group act) s.story (story_behind s failed)
+
+-- how many crashes left a forged image, as far as the device tells it
+abbrev pub forged_of : Option Told → ℕ
+forged_of None = 0
+forged_of (Some told) = told.forged
+
+-- The count of forged images is so much at least, and it is more where the device isn't known to bear out the story.
+pub record IsCounted (first : ℕ) (s : State) : Type 0 where
+  pub least : first ≤ forged_of s.device.told
+  pub risen : (s.footing ≡ Known) ⊎ (first < forged_of s.device.told)
+
+-- Every turn keeps that. So a device that was known, and whose count hasn't risen since, is known still.
+abbrev pub FootingStays : Type 0
+FootingStays = (first : ℕ) (s next : State) (event : Event) → first < 2 ^ 64 - 1 → Turn s event next → IsCounted first s → IsCounted first next

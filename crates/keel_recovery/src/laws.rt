@@ -2,7 +2,7 @@
 ghost use Rattle.keel_recovery.specs.Laws.{CoveringStands, CrashLeavesPrefix, FirstOpening, OneReading, OpeningCovers, OpeningFindsPrefix, OpeningFindsPublished, ReadingLeavesPrefix};
 ghost use Rattle.keel_recovery.specs.Laws.{AppendCovers, CreateCovers, PublishCovers, SyncCovers, SyncDirCovers};
 ghost use Rattle.keel_recovery.specs.Laws.{InsideAppend, InsideCreate, InsideSync, InsideSyncDir};
-ghost use Rattle.keel_recovery.specs.Machine.{CoveredReads, CoveredStands, CrashTurns, StartsCovered, TurnKeeps};
+ghost use Rattle.keel_recovery.specs.Machine.{CoveredReads, CoveredStands, CrashTurns, FootingStays, InsideStep, OpeningGoesOn, StartsCovered, TurnKeeps};
 ghost use Rattle.keel_recovery.specs.Worked.{FirstBatch, TwoPuts};
 
 /// A device that an open store covers stands for its story.
@@ -110,9 +110,25 @@ pub fn crash_turns()
     ensures { CrashTurns }
 {}
 
+/// A crash inside the call of a machine's write step, whatever the answer.
+pub fn inside_step()
+    ensures { InsideStep }
+{}
+
 /// Where a machine's story goes on, the directory of its covered device reads as the point that it leads to.
 pub fn covered_reads()
     ensures { CoveredReads }
+{}
+
+/// An opening that goes on with a machine's story is refused for a fault of the device or for want of memory alone.
+pub fn opening_goes_on()
+    ensures { OpeningGoesOn }
+{}
+
+/// A machine's device is known to bear out the story until its count of forged images rises, as it can below its end,
+/// 2^64 - 1.
+pub fn footing_stays()
+    ensures { FootingStays }
 {}
 
 /// What a crash may leave of two puts, of which the first was synced.

@@ -10,7 +10,11 @@
 //!
 //! Of the machine as a whole it says that every turn that a caller may ask for keeps its device covered (`turn_keeps`),
 //! from a device at rest on (`starts_covered`), so that the device of an open store always stands for its story
-//! (`covered_stands`).
+//! (`covered_stands`). Whatever a crash leaves is a turn as well (`crash_turns`), and one inside a write step's call
+//! leaves a prefix of the story before it or behind it (`inside_step`). Behind a crash the directory reads as the point
+//! that the story leads to (`covered_reads`), so that an opening which goes on with the story is refused for a fault of
+//! the device or for want of memory alone (`opening_goes_on`). All this is of a device that is known to bear out the
+//! story, as it is until its count of forged images rises (`footing_stays`).
 //!
 //! It stands on the device's model (`keel_disk`), the log format (`keel_frag`), batches (`keel_batch`), the reading of a
 //! directory (`keel_reading`) and the machine's stories (`keel_machine`). There is nothing here to run.
