@@ -1,0 +1,65 @@
+-- What becomes of the options where one of them is changed.
+use Rattle.std.proofs.Common.{◌≡◌, ◌≢◌, ◌≤◌, ℕ, zero, suc, ◌==◌, refl, arith}
+use Rattle.keel_base.specs.declared.options.Options.{Options}
+use Rattle.keel_base.specs.Options.{AreInRange}
+use Rattle.keel_script.specs.declared.option_name.OptionName.{OptionName}
+use Rattle.keel_script.specs.declared.option_name.OptionName.TheVariants.{Paranoid, Auto, Attempts, Interval, WriteBuffer, MaxImmutables, Level0Trigger, LevelBase, TableSize, Limit, Buffer, Rate, Ratio, Chunk}
+use Rattle.keel_settings.specs.Values.{IsWithin, SetsOne, of_switch, value_in, with_value}
+
+-- every option stays in its range
+pub stays_in_range : (name : OptionName) (value : ℕ) (old : Options) → IsWithin name value → AreInRange old → AreInRange (with_value name value old)
+stays_in_range Paranoid value old within all = assumption (all, within)
+stays_in_range Auto value old within all = assumption (all, within)
+stays_in_range Attempts value old within all = assumption (all, within)
+stays_in_range Interval value old within all = assumption (all, within)
+stays_in_range WriteBuffer value old within all = assumption (all, within)
+stays_in_range MaxImmutables value old within all = assumption (all, within)
+stays_in_range Level0Trigger value old within all = assumption (all, within)
+stays_in_range LevelBase value old within all = assumption (all, within)
+stays_in_range TableSize value old within all = assumption (all, within)
+stays_in_range Limit value old within all = assumption (all, within)
+stays_in_range Buffer value old within all = assumption (all, within)
+stays_in_range Rate value old within all = assumption (all, within)
+stays_in_range Ratio value old within all = assumption (all, within)
+stays_in_range Chunk value old within all = assumption (all, within)
+
+switched : (value : ℕ) → value ≤ 1 → of_switch (value == 1) ≡ value
+switched zero most = refl
+switched (suc zero) most = refl
+switched (suc (suc value)) most = absurd (omega (arith, most))
+
+has : (name : OptionName) (value : ℕ) (old : Options) → IsWithin name value → value_in name (with_value name value old) ≡ value
+has Paranoid value old within = switched value within.most_is
+has Auto value old within = switched value within.most_is
+has Attempts value old within = refl
+has Interval value old within = refl
+has WriteBuffer value old within = refl
+has MaxImmutables value old within = refl
+has Level0Trigger value old within = refl
+has LevelBase value old within = refl
+has TableSize value old within = refl
+has Limit value old within = refl
+has Buffer value old within = refl
+has Rate value old within = refl
+has Ratio value old within = refl
+has Chunk value old within = refl
+
+others : (name other : OptionName) (value : ℕ) (old : Options) → other ≢ name → value_in other (with_value name value old) ≡ value_in other old
+others Paranoid Paranoid value old apart = absurd (apart refl)
+others Auto Auto value old apart = absurd (apart refl)
+others Attempts Attempts value old apart = absurd (apart refl)
+others Interval Interval value old apart = absurd (apart refl)
+others WriteBuffer WriteBuffer value old apart = absurd (apart refl)
+others MaxImmutables MaxImmutables value old apart = absurd (apart refl)
+others Level0Trigger Level0Trigger value old apart = absurd (apart refl)
+others LevelBase LevelBase value old apart = absurd (apart refl)
+others TableSize TableSize value old apart = absurd (apart refl)
+others Limit Limit value old apart = absurd (apart refl)
+others Buffer Buffer value old apart = absurd (apart refl)
+others Rate Rate value old apart = absurd (apart refl)
+others Ratio Ratio value old apart = absurd (apart refl)
+others Chunk Chunk value old apart = absurd (apart refl)
+others _ _ value old apart = refl
+
+pub sets_one : (name : OptionName) (value : ℕ) (old : Options) → IsWithin name value → SetsOne name value old (with_value name value old)
+sets_one name value old within = record { has = has name value old within; others = λ other apart. others name other value old apart }

@@ -1,0 +1,152 @@
+//! The options of a store as a workload sets them.
+//!
+//! - `Settings` keeps a value for each option, always within its range, from the one that it has where none was
+//!   set. `set` changes one by its name.
+#![tactic(auto)]
+
+ghost use Rattle.std.specs.Prelude.{◌≡◌, ◌↔◌, IsOk, IfErr, OnOk, OnErr};
+ghost use Rattle.keel_base.specs.Options.{AreInRange};
+ghost use Rattle.keel_script.specs.Options.{range_of, default_of};
+ghost use Rattle.keel_settings.specs.Values.{IsWithin, SetsOne, AreDefaults, with_value};
+
+use keel_base::Options;
+use keel_script::{OptionName, Range};
+use std::marker::Model;
+
+/// What was set, and the default of each option for which nothing was. Contracts see the options.
+#[derive(Debug, Drop)]
+pub struct Settings {
+    options: Options,
+}
+
+impl Model for Settings {
+    ghost use Rattle.keel_base.specs.declared.options.Options.{Options};
+    ghost use Rattle.keel_base.specs.Options.{AreInRange};
+
+    ghost Value = { Options };
+
+    ghost view = { λ s. s.options };
+
+    ghost invariant = { λ s. AreInRange s.options };
+}
+
+impl Settings {
+    /// Nothing was set yet.
+    pub fn new() -> Self
+        ensures { AreDefaults result }
+    {
+        Settings {
+            options: defaults(),
+        }
+    }
+
+    /// Sets an option. A value out of its range changes nothing, and the range is handed out.
+    pub fn set(&mut self, name: OptionName, value: u64) -> Result<(), Range>
+        ensures ok { OnOk result (SetsOne name value self.old self.new) }
+        ensures err { OnErr result (self.new ≡ self.old) }
+        ensures range { IfErr result (λ range. range ≡ range_of name) }
+        ensures cause { IsOk result ↔ IsWithin name value }
+    {
+        let range = name.range();
+        if !range.contains(value) {
+            return Err(range);
+        }
+        self.options = changed(self.options, name, value);
+        Ok(())
+    }
+
+    /// The values, each within its range.
+    pub fn options(&self) -> &Options
+        ensures same { result.now ≡ self.now }
+        ensures in_range { AreInRange self.now }
+    {
+        &self.options
+    }
+}
+
+fn defaults() -> Options
+    ensures defaults { AreDefaults result }
+    ensures in_range { AreInRange result }
+{
+    Options {
+        paranoid: OptionName::Paranoid.default() == 1,
+        auto: OptionName::Auto.default() == 1,
+        attempts: OptionName::Attempts.default() as u32,
+        interval: OptionName::Interval.default(),
+        write_buffer: OptionName::WriteBuffer.default(),
+        max_immutables: OptionName::MaxImmutables.default() as u32,
+        level0_trigger: OptionName::Level0Trigger.default() as u32,
+        level_base: OptionName::LevelBase.default(),
+        table_size: OptionName::TableSize.default(),
+        limit: OptionName::Limit.default(),
+        buffer: OptionName::Buffer.default(),
+        rate: OptionName::Rate.default(),
+        ratio: OptionName::Ratio.default() as u32,
+        chunk: OptionName::Chunk.default(),
+    }
+}
+
+// The options with one of them changed.
+fn changed(old: Options, name: OptionName, value: u64) -> Options
+    requires { IsWithin name value }
+    ensures { result ≡ with_value name value old }
+{
+    match name {
+        OptionName::Paranoid => Options {
+            paranoid: value == 1,
+            ..old
+        },
+        OptionName::Auto => Options {
+            auto: value == 1,
+            ..old
+        },
+        OptionName::Attempts => Options {
+            attempts: value as u32,
+            ..old
+        },
+        OptionName::Interval => Options {
+            interval: value,
+            ..old
+        },
+        OptionName::WriteBuffer => Options {
+            write_buffer: value,
+            ..old
+        },
+        OptionName::MaxImmutables => Options {
+            max_immutables: value as u32,
+            ..old
+        },
+        OptionName::Level0Trigger => Options {
+            level0_trigger: value as u32,
+            ..old
+        },
+        OptionName::LevelBase => Options {
+            level_base: value,
+            ..old
+        },
+        OptionName::TableSize => Options {
+            table_size: value,
+            ..old
+        },
+        OptionName::Limit => Options {
+            limit: value,
+            ..old
+        },
+        OptionName::Buffer => Options {
+            buffer: value,
+            ..old
+        },
+        OptionName::Rate => Options { rate: value, ..old },
+        OptionName::Ratio => Options {
+            ratio: value as u32,
+            ..old
+        },
+        OptionName::Chunk => Options {
+            chunk: value,
+            ..old
+        },
+    }
+}
+
+#[cfg(test)]
+mod tests;
