@@ -1,90 +1,239 @@
--- Commands over an open store, and over none.
-use Rattle.std.proofs.Common.{◌≡◌, ◌⊎◌, ℕ, Bool, true, false, Some, List, [], ◌∷◌, Result, Ok, Err, IfOk, OnErr, refl, sym, ap, subst, inl, inr}
+-- Commands on the driver's store.
+use Rattle.std.proofs.Common.{◌≡◌, ◌⊎◌, ℕ, Bool, true, false, Option, Some, None, List, [], ◌∷◌, Result, Ok, Err, refl, sym, ap, subst, ◌∙◌, inl, inr}
+use Rattle.std.specs.Prelude.{IfOk, IsErr, OnErr}
+use Rattle.keel_base.specs.declared.listing.Entry.{Entry}
+use Rattle.keel_base.specs.declared.memory.OutOfMemory.{OutOfMemory}
+use Rattle.keel_disk.specs.declared.error.DiskError.{DiskError}
+use Rattle.keel_disk.specs.declared.error.DiskError.TheVariants as disk
+use Rattle.keel_disk.specs.Told.{Told}
 use Rattle.keel_machine.specs.declared.answers.Got.{Got}
 use Rattle.keel_machine.specs.declared.answers.Got.TheVariants as got
-use Rattle.keel_machine.specs.States.{State, Seen}
-use Rattle.keel_machine.specs.Turns.{Answers, Getting, Opening, after}
-use Rattle.keel_core.specs.Views.{CoreView, StandsFor, Turns}
-use Rattle.keel_cli.specs.declared.command.Command.{Command}
-use Rattle.keel_cli.specs.declared.command.Command.TheVariants.{Open, Put, Get}
-use Rattle.keel_cli.specs.declared.reply.Reply.{Reply}
-use Rattle.keel_cli.specs.declared.reply.Reply.TheVariants as reply
-use Rattle.keel_cli.specs.Ends.{CutShort}
-use Rattle.keel_cli.specs.Places.{AreTold, CoreLeads, IsShut}
-use Rattle.keel_recovery.specs.Machine.{is_open}
-use Rattle.keel_cli.specs.Puts.{put_batch, PutRun, PutCut}
-use Rattle.keel_cli.specs.Runs.{Carries, CarriesWhere, Partly, PartlyWhere, reading_replies, unopened}
+use Rattle.keel_machine.specs.Opening.{continues}
+use Rattle.keel_machine.specs.States.{State, Seen, Footing, Known, Unknown, Mode, Unopened, Closed, Open as Opened, with_device}
+use Rattle.keel_machine.specs.Turns.{Turn, Answers, after, Opening, Getting, Listing, Crashing}
+use Rattle.keel_machine.specs.Crash.{crash_after, mode_crashed}
+use Rattle.keel_reading.specs.declared.refusal.OpenRefusal.{OpenRefusal}
+use Rattle.keel_reading.specs.declared.refusal.OpenRefusal.TheVariants as refusal
+use Rattle.keel_core.specs.Openings.{Opens, Expects, IsBorneOut, WhereGoesOn}
+use Rattle.keel_core.specs.Views.{CoreView, StandsFor, Turns, point_in}
+use Rattle.keel_recovery.specs.Machine.{is_open, IsCovered, Drops, ReadsOnIn}
+use Rattle.keel_recovery.proofs.Crashing.{crash_turns}
+use Rattle.keel_recovery.proofs.GoingOn.{covered_reads}
+use Rattle.keel_script.specs.declared.command.Command.{Command}
+use Rattle.keel_script.specs.declared.command.Command.TheVariants.{Open, Put, Del, Drain, Get, Files, Crash}
+use Rattle.keel_script.specs.declared.reply.Reply.{Reply}
+use Rattle.keel_script.specs.declared.reply.Reply.TheVariants as reply
+use Rattle.keel_cli.specs.declared.answer.Answer.{Answer}
+use Rattle.keel_cli.specs.declared.answer.Answer.TheVariants as answers
+use Rattle.keel_cli.specs.declared.place.Place.{Place}
+use Rattle.keel_cli.specs.declared.place.Place.TheVariants as place
+use Rattle.keel_cli.specs.Cuts.{StoreCutShort, CarriedOut}
+use Rattle.keel_cli.specs.Places.{IsShut, device_of, Stands, Leads, Leaves, CoreLeads, AreTold, IsTidy}
+use Rattle.keel_cli.specs.Replies.{replies_of}
+use Rattle.keel_cli.specs.Runs.{opening_replies, listing_replies, reading_replies, rest_reply, CrashRun, Calls, RestsOrCalls, CarriesOnStore, CallsPartly}
 use Rattle.keel_cli.proofs.Tickets.{state_at, stands_at, told_in}
 
-open_mode : (core : CoreView) (s : State) → StandsFor core s → is_open s.mode ≡ true
+-- ---- commands that make no call, and those that make some
+
+pub rests_on_store : (s : State) (command : Command) (reply_ : Reply) (is_one_open : Bool) → is_open s.mode ≡ is_one_open → Some reply_ ≡ rest_reply is_one_open command
+    → CarriesOnStore s command (reply_ ∷ []) s
+rests_on_store s command reply_ is_one_open is rests =
+    subst (λ (r : Option Reply). RestsOrCalls r s command (reply_ ∷ []) s) (rests ∙ ap (λ (b : Bool). rest_reply b command) (sym is)) (record { same = refl; prints = refl })
+
+pub calls_on_store : (s new : State) (command : Command) (replies : List Reply) → rest_reply (is_open s.mode) command ≡ None → Calls s command replies new → CarriesOnStore s command replies new
+calls_on_store s new command replies none run = subst (λ (r : Option Reply). RestsOrCalls r s command replies new) (sym none) run
+
+pub partly_on_store : (s new : State) (command : Command) → rest_reply (is_open s.mode) command ≡ None → CallsPartly s command new → StoreCutShort s command new
+partly_on_store s new command none cut = inr (inr (none, cut))
+
+pub open_mode : (core : CoreView) (s : State) → StandsFor core s → is_open s.mode ≡ true
 open_mode core s stands = ap (λ (t : State). is_open t.mode) stands.state_is
 
-while_open : (core : CoreView) (s new : State) (command : Command) (replies : List Reply) → StandsFor core s
-    → CarriesWhere true s command replies new → Carries s command replies new
-while_open core s new command replies stands carries =
-    subst (λ (v : Bool). CarriesWhere v s command replies new) (sym (open_mode core s stands)) carries
+pub open_device : (core : CoreView) (s : State) → StandsFor core s → core.device ≡ s.device
+open_device core s stands = sym (ap (λ (t : State). t.device) stands.state_is)
 
-partly_open : (core : CoreView) (s new : State) (command : Command) → StandsFor core s → PartlyWhere true s command new → Partly s command new
-partly_open core s new command stands partly = subst (λ (v : Bool). PartlyWhere v s command new) (sym (open_mode core s stands)) partly
-
-while_shut : (shows : Seen) (s new : State) (command : Command) (replies : List Reply) → IsShut shows s
-    → CarriesWhere false s command replies new → Carries s command replies new
-while_shut shows s new command replies shut carries = subst (λ (v : Bool). CarriesWhere v s command replies new) (sym shut.shut) carries
+none_where : (s : State) (b : Bool) (command : Command) → is_open s.mode ≡ b → rest_reply b command ≡ None → rest_reply (is_open s.mode) command ≡ None
+none_where s b command is none = ap (λ (c : Bool). rest_reply c command) is ∙ none
 
 -- ---- reads
 
-pub read_run : (old new : CoreView) (key : List ℕ) (answer : Got) (replies : List Reply) → Turns old (Getting key answer) new
-    → reading_replies answer ≡ Some replies → (s : State) → StandsFor old s → CoreLeads new (Carries s (Get key) replies)
-read_run old new key answer replies turns prints s stands =
-    let gone = turns.goes s stands in
-    let next = after s (Getting key answer) new.device in
-    (next, gone.1, while_open old s next (Get key) replies stands (record { answer = answer; turn = (gone.0, refl); prints = prints }))
+module _ (V : Type 0) (shown : V → Seen) where
+  pub read_run : (old new : CoreView) (driver : Place V) (key : List ℕ) (answer : Got) (replies : List Reply) → driver ≡ place.Open new → Turns old (Getting key answer) new
+      → reading_replies answer ≡ Some replies → (s : State) → StandsFor old s → Leads shown driver (CarriesOnStore s (Get key) replies)
+  read_run old new driver key answer replies is turns prints s stands =
+      let gone = turns.goes s stands in
+      let next = after s (Getting key answer) new.device in
+      subst (λ (p : Place V). Leads shown p (CarriesOnStore s (Get key) replies)) (sym is)
+      (next, gone.1, calls_on_store s next (Get key) replies (none_where s true (Get key) (open_mode old s stands) refl) (record { answer = answer; turn = (gone.0, refl); prints = prints }))
 
-pub read_cut : (old new : CoreView) (key : List ℕ) → Turns old (Getting key got.OutOfMemory) new → (s : State) → StandsFor old s → CoreLeads new (CutShort s (Get key))
-read_cut old new key turns s stands =
-    let gone = turns.goes s stands in
-    let next = after s (Getting key got.OutOfMemory) new.device in
-    (next, gone.1, inr (inr (partly_open old s next (Get key) stands (gone.0, refl))))
+  pub read_cut : (old new : CoreView) (key : List ℕ) → Turns old (Getting key got.OutOfMemory) new
+      → (s : State) → StandsFor old s → Leaves shown (place.Open new) (StoreCutShort s (Get key))
+  read_cut old new key turns s stands =
+      let gone = turns.goes s stands in
+      let next = after s (Getting key got.OutOfMemory) new.device in
+      (next, open_device new next gone.1, partly_on_store s next (Get key) (none_where s true (Get key) (open_mode old s stands) refl) (gone.0, refl))
 
 pub read_told : (old new : CoreView) (key : List ℕ) (answer : Got) → Turns old (Getting key answer) new → AreTold old.outcomes → AreTold new.outcomes
 read_told old new key answer turns told =
     told_in new (after (state_at old) (Getting key answer) new.device) (turns.goes (state_at old) (stands_at old)).1 told
 
+-- ---- answers of one reply
+
+no_err : {T E P : Type 0} (x : T) → IsErr {T} {E} (Ok x) → P
+no_err x h = absurd cc
+
+module _ (V : Type 0) (shown : V → Seen) (s : State) (command : Command) where
+  pub answered : (new : CoreView) (r : Result Reply OutOfMemory) (a : Result Answer OutOfMemory) → IfOk r (λ x. a ≡ Ok (answers.One x)) → (IsErr r → IsErr a)
+      → IfOk r (λ x. CoreLeads new (CarriesOnStore s command (x ∷ []))) → OnErr r (CoreLeads new (StoreCutShort s command))
+      → CarriedOut shown s command (place.Open new) a
+  answered new (Ok x) a ok err carried cut = subst (CarriedOut shown s command (place.Open new)) (sym ok) carried
+  answered new (Err e) (Ok y) ok err carried cut = no_err y (err refl)
+  answered new (Err e) (Err f) ok err carried cut = (cut.0, open_device new cut.0 cut.1, cut.2)
+
+  -- a command that is answered without a call
+  pub rested_open : (core : CoreView) (reply_ : Reply) → Some reply_ ≡ rest_reply true command → StandsFor core s
+      → CarriedOut {E = OutOfMemory} shown s command (place.Open core) (Ok (answers.One reply_))
+  rested_open core reply_ rests stands = (s, stands, rests_on_store s command reply_ true (open_mode core s stands) rests)
+
+  pub rested_closed : (device : V) (reply_ : Reply) → Some reply_ ≡ rest_reply false command → IsShut (shown device) s
+      → CarriedOut {E = OutOfMemory} shown s command (place.Closed device) (Ok (answers.One reply_))
+  rested_closed device reply_ rests shut = (s, shut, rests_on_store s command reply_ false shut.shut rests)
+
+-- the same of a step of a core
+map_ok : {P Q : Reply → Type 0} (r : Result Reply OutOfMemory) → ((x : Reply) → P x → Q x) → IfOk r P → IfOk r Q
+map_ok (Ok x) f h = f x h
+map_ok (Err e) f h = tt
+
+map_err : {P Q : Type 0} (r : Result Reply OutOfMemory) → (P → Q) → OnErr r P → OnErr r Q
+map_err (Ok x) f h = tt
+map_err (Err e) f h = f h
+
+module _ (V : Type 0) (shown : V → Seen) (s : State) (command : Command) (old new : CoreView) (r : Result Reply OutOfMemory) (a : Result Answer OutOfMemory) where
+  pub called : (run : List Reply → State → Type 0) (partly : State → Type 0) → StandsFor old s → rest_reply true command ≡ None
+      → ((replies : List Reply) (next : State) → run replies next → Calls s command replies next)
+      → ((next : State) → partly next → (next ≡ s) ⊎ CallsPartly s command next)
+      → IfOk r (λ x. a ≡ Ok (answers.One x)) → (IsErr r → IsErr a)
+      → IfOk r (λ x. CoreLeads new (run (x ∷ []))) → OnErr r (CoreLeads new partly)
+      → CarriedOut shown s command (place.Open new) a
+  called run partly stands none calls cuts ok err carried cut =
+      let at = none_where s true command (open_mode old s stands) none in
+      let cut_short : (next : State) → (next ≡ s) ⊎ CallsPartly s command next → StoreCutShort s command next =
+      λ next is. elim is [ inl same ↦ inl same | inr part ↦ partly_on_store s next command at part ] in
+      answered V shown s command new r a ok err
+      (map_ok r (λ x leads. (leads.0, leads.1, calls_on_store s leads.0 command (x ∷ []) at (calls (x ∷ []) leads.0 leads.2))) carried)
+      (map_err r (λ leads. (leads.0, leads.1, cut_short leads.0 (cuts leads.0 leads.2))) cut)
+
 -- ---- openings
 
-pub opened_told : (core : CoreView) (shows : Seen) (seq : ℕ) → StandsFor core (after (unopened shows) (Opening (Ok seq)) core.device) → AreTold core.outcomes
-opened_told core shows seq stands = told_in core (after (unopened shows) (Opening (Ok seq)) core.device) stands tt
+borne_out : (told : Option Told) (s : State) → told ≡ s.device.told → ReadsOnIn told s.story → IsBorneOut s
+borne_out None s is reads = absurd reads
+borne_out (Some told) s is reads = record {
+  no_limbo = reads.after_crash.none_in_limbo;
+  all_firm = reads.after_crash.all_stay;
+  told = told;
+  is_told = sym is;
+  names = reads.names;
+  reads = reads.reads;
+}
 
-pub opened_run : (core : CoreView) (shows : Seen) (seq : ℕ) (s : State) → IsShut shows s
-    → Answers s (Opening (Ok seq)) core.device × StandsFor core (after s (Opening (Ok seq)) core.device) → CoreLeads core (Carries s Open (reply.Opened seq ∷ []))
-opened_run core shows seq s shut gone =
-    let next = after s (Opening (Ok seq)) core.device in
-    (next, gone.1, while_shut shows s next Open (reply.Opened seq ∷ []) shut (record { answer = Ok seq; turn = (gone.0, refl); prints = refl }))
+-- the device of a covered store bears out the story with which an opening goes on
+pub expected : (s : State) → IsCovered s → Expects s
+expected s covered =
+    elim (continues s.mode s.footing) as (λ b. continues s.mode s.footing ≡ b → WhereGoesOn b s) [
+      | true ↦ λ goes. borne_out s.device.told s refl (covered_reads s goes covered)
+      | false ↦ λ begins. tt
+    ] refl
 
--- ---- commands that make no call
+module _ (V : Type 0) (shown : V → Seen) (s : State) where
+  pub opened_run : (core : CoreView) (shows : Seen) (seq : ℕ) → IsShut shows s → Opens s core → seq ≡ (point_in core).seq
+      → CarriedOut {E = OutOfMemory} shown s Open (place.Open core) (Ok (answers.One (reply.Opened seq)))
+  opened_run core shows seq shut opens is =
+      let next = after s (Opening (Ok opens.found)) core.device in
+      let run = calls_on_store s next Open (reply.Opened opens.found.last_seq ∷ []) (none_where s false Open shut.shut refl)
+      (record { answer = Ok opens.found; turn = (opens.answers, refl); prints = refl }) in
+      (next, opens.stands, subst (λ n. CarriesOnStore s Open (reply.Opened n ∷ []) next) (opens.last_is ∙ sym is) run)
 
-pub still_open : (core : CoreView) (s : State) → StandsFor core s → CoreLeads core (Carries s Open (reply.IsOpen ∷ []))
-still_open core s stands = (s, stands, while_open core s s Open (reply.IsOpen ∷ []) stands (record { same = refl; prints = refl }))
+  -- the state behind a refusal is as before, but for the device
+  pub refused_run : (device : V) (before : Seen) (refused : OpenRefusal) (r : Result Reply OutOfMemory) (a : Result Answer OutOfMemory) → IsShut before s
+      → Answers s (Opening (Err refused)) (shown device)
+      → IfOk r (λ x. opening_replies (Err refused) ≡ Some (x ∷ [])) → (IsErr r → refused ≡ refusal.OutOfMemory)
+      → IfOk r (λ x. a ≡ Ok (answers.One x)) → (IsErr r → IsErr a)
+      → CarriedOut shown s Open (place.Closed device) a
+  refused_run device before refused (Ok x) a shut answers_ printed cut ok err =
+      let next = with_device (shown device) s in
+      let run = calls_on_store s next Open (x ∷ []) (none_where s false Open shut.shut refl) (record { answer = Err refused; turn = (answers_, refl); prints = printed }) in
+      subst (CarriedOut shown s Open (place.Closed device)) (sym ok) (next, record { shut = shut.shut; device = refl }, run)
+  refused_run device before refused (Err e) (Ok y) shut answers_ printed cut ok err = no_err y (err refl)
+  refused_run device before refused (Err e) (Err f) shut answers_ printed cut ok err =
+      let next = with_device (shown device) s in
+      let want = subst (λ (o : OpenRefusal). Answers s (Opening (Err o)) (shown device)) (cut refl) answers_ in
+      (next, refl, partly_on_store s next Open (none_where s false Open shut.shut refl) (want, refl))
 
-pub put_shut : (shows : Seen) (key value : List ℕ) (sync : Bool) (s : State) → IsShut shows s → (x : State) × IsShut shows x × Carries s (Put key value sync) (reply.NotOpen ∷ []) x
-put_shut shows key value sync s shut = (s, shut, while_shut shows s s (Put key value sync) (reply.NotOpen ∷ []) shut (record { same = refl; prints = refl }))
+pub opened_told : (core : CoreView) (s : State) → Opens s core → AreTold core.outcomes
+opened_told core s opens = told_in core (after s (Opening (Ok opens.found)) core.device) opens.stands tt
 
-pub get_shut : (shows : Seen) (key : List ℕ) (s : State) → IsShut shows s → (x : State) × IsShut shows x × Carries s (Get key) (reply.NotOpen ∷ []) x
-get_shut shows key s shut = (s, shut, while_shut shows s s (Get key) (reply.NotOpen ∷ []) shut (record { same = refl; prints = refl }))
+-- ---- listings
 
--- ---- puts
+none_of_list : (is_one_open : Bool) → rest_reply is_one_open Files ≡ None
+none_of_list true = refl
+none_of_list false = refl
 
-pub put_run : {E : Type 0} (old new : CoreView) (key value : List ℕ) (sync : Bool) (s : State) (r : Result Reply E) → StandsFor old s
-    → IfOk r (λ one. CoreLeads new (PutRun s (put_batch key value sync) (one ∷ []))) → IfOk r (λ one. CoreLeads new (Carries s (Put key value sync) (one ∷ [])))
-put_run old new key value sync s (Ok one) stands leads = (leads.0, leads.1, while_open old s leads.0 (Put key value sync) (one ∷ []) stands leads.2)
-put_run old new key value sync s (Err e) stands leads = tt
+module _ (V : Type 0) (shown : V → Seen) (s next : State) where
+  pub listed : (driver : Place V) (is_one_open : Bool) (answer : Result (List Entry) DiskError) (a : Result Answer OutOfMemory) → is_open s.mode ≡ is_one_open
+      → Stands shown driver next → device_of shown driver ≡ next.device → Turn s (Listing answer) next
+      → IfOk a (λ x. listing_replies answer ≡ Some (replies_of x)) → (IsErr a → answer ≡ Err disk.OutOfMemory)
+      → CarriedOut shown s Files driver a
+  listed driver is_one_open answer (Ok x) is stands device turn printed cut =
+      (next, stands, calls_on_store s next Files (replies_of x) (none_where s is_one_open Files is (none_of_list is_one_open)) (record { answer = answer; turn = turn; prints = printed }))
+  listed driver is_one_open answer (Err e) is stands device turn printed cut =
+      (next, device, partly_on_store s next Files (none_where s is_one_open Files is (none_of_list is_one_open)) (subst (λ (o : Result (List Entry) DiskError). Turn s (Listing o) next) (cut refl) turn))
 
-cut_put : (old : CoreView) (key value : List ℕ) (sync : Bool) (s next : State) → StandsFor old s
-    → (next ≡ s) ⊎ PutCut s (put_batch key value sync) next → CutShort s (Put key value sync) next
-cut_put old key value sync s next stands (inl same) = inl same
-cut_put old key value sync s next stands (inr cut) = inr (inr (partly_open old s next (Put key value sync) stands cut))
+pub list_told : (old new : CoreView) (answer : Result (List Entry) DiskError) → Turns old (Listing answer) new → AreTold old.outcomes → AreTold new.outcomes
+list_told old new answer turns told =
+    told_in new (after (state_at old) (Listing answer) new.device) (turns.goes (state_at old) (stands_at old)).1 told
 
-pub put_cut : {T : Type 0} {E : Type 0} (old new : CoreView) (key value : List ℕ) (sync : Bool) (s : State) (r : Result T E) → StandsFor old s
-    → OnErr r (CoreLeads new (λ next. (next ≡ s) ⊎ PutCut s (put_batch key value sync) next)) → OnErr r (CoreLeads new (CutShort s (Put key value sync)))
-put_cut old new key value sync s (Ok one) stands leads = tt
-put_cut old new key value sync s (Err e) stands leads = (leads.0, leads.1, cut_put old key value sync s leads.0 stands leads.2)
+-- ---- crashes
+
+shut_behind : (s : State) (kept : Option ℕ) → is_open (crash_after s kept).mode ≡ false
+shut_behind s None = refl
+shut_behind s (Some count) = shut_by s.mode
+  where
+    shut_by : (m : Mode) → is_open (mode_crashed m) ≡ false
+    shut_by Unopened = refl
+    shut_by Closed = refl
+    shut_by Opened = refl
+
+module _ (V : Type 0) (shown : V → Seen) (s : State) (dirops keep garbage seed : ℕ) where
+  abbrev crash : Command
+  crash = Crash dirops keep garbage seed
+
+  none_of_crash : rest_reply (is_open s.mode) crash ≡ None
+  none_of_crash = by (is_open s.mode)
+    where
+      by : (b : Bool) → rest_reply b crash ≡ None
+      by true = refl
+      by false = refl
+
+  pub crashed : (device : V) → IsCovered s → Drops s (shown device)
+      → CarriedOut {E = OutOfMemory} shown s crash (place.Closed device) (Ok (answers.One reply.Crashed))
+  crashed device covered drops =
+      let left = crash_turns s (shown device) covered drops in
+      let next = after s (Crashing left.0) (shown device) in
+      let run : Calls s crash (reply.Crashed ∷ []) next = subst (λ b. CrashRun b s (reply.Crashed ∷ []) next) (sym drops.simulated) (left.0, (left.1, refl), refl) in
+      (next, record { shut = shut_behind s left.0; device = refl }, calls_on_store s next crash (reply.Crashed ∷ []) none_of_crash run)
+
+  pub crash_cut : (device : V) (e : OutOfMemory) → shown device ≡ s.device → CarriedOut shown s crash (place.Closed device) (Err e)
+  crash_cut device e is = (s, is, inl refl)
+
+  not_crashed : s.device.simulated ≡ false → CarriesOnStore s crash (reply.NotSimulated ∷ []) s
+  not_crashed is =
+      let run : Calls s crash (reply.NotSimulated ∷ []) s = subst (λ b. CrashRun b s (reply.NotSimulated ∷ []) s) (sym is) (record { same = refl; prints = refl }) in
+      calls_on_store s s crash (reply.NotSimulated ∷ []) none_of_crash run
+
+  pub not_crashed_open : (core : CoreView) → StandsFor core s → s.device.simulated ≡ false
+      → CarriedOut {E = OutOfMemory} shown s crash (place.Open core) (Ok (answers.One reply.NotSimulated))
+  not_crashed_open core stands is = (s, stands, not_crashed is)
+
+  pub not_crashed_closed : (device : V) → IsShut (shown device) s → s.device.simulated ≡ false
+      → CarriedOut {E = OutOfMemory} shown s crash (place.Closed device) (Ok (answers.One reply.NotSimulated))
+  not_crashed_closed device shut is = (s, shut, not_crashed is)

@@ -1,16 +1,18 @@
 -- Runs go on.
-use Rattle.std.proofs.Common.{◌≡◌, ℕ, Option, None, Some, List, [], ◌∷◌, ◌++◌, ap, refl, sym, ◌∙◌, append_assoc, append-nil, inr}
+use Rattle.std.proofs.Common.{◌≡◌, ℕ, Option, None, Some, List, [], ◌∷◌, ◌++◌, ap, refl, sym, ◌∙◌, append_assoc, append-nil, inr, length, ◌≤◌}
 use Rattle.std.proofs.KnownBytes.{Appends-trans}
 use Rattle.std.specs.Io.KnownBytes.{Appends}
-use Rattle.keel_machine.specs.States.{State}
-use Rattle.keel_cli.specs.declared.command.Command.{Command}
-use Rattle.keel_cli.specs.declared.reply.Reply.{Reply}
+use Rattle.keel_script.specs.declared.command.Command.{Command}
+use Rattle.keel_script.specs.declared.reply.Reply.{Reply}
+use Rattle.keel_script.specs.Grammar as script
+use Rattle.keel_script.specs.Words.{IsBlank}
 use Rattle.keel_cli.specs.declared.lines.LineStop.{LineStop}
-use Rattle.keel_cli.specs.declared.lines.LineStop.TheVariants.{Refused, Unwritten, NoMemory}
-use Rattle.keel_cli.specs.Ends.{CommandEnds, LineEnds}
-use Rattle.keel_cli.specs.Grammar.{AreCommands, IsLineOf}
+use Rattle.keel_cli.specs.declared.lines.LineStop.TheVariants.{Refused, TooLong, Unwritten, NoMemory}
+use Rattle.keel_cli.specs.Ends.{CommandEnds, LineEnds, Progress}
+use Rattle.keel_cli.specs.Grammar.{longest_line, AreCommands}
 use Rattle.keel_cli.specs.Replies.{text, full_line}
-use Rattle.keel_cli.specs.Runs.{Run, Progress}
+use Rattle.keel_cli.specs.Runs.{Run}
+use Rattle.keel_cli.specs.Sessions.{Session}
 
 pub text-append : (first second : List Reply) → text (first ++ second) ≡ text first ++ text second
 text-append [] second = refl
@@ -28,7 +30,7 @@ AreCommands-append (line ∷ lines) more commands others read next = (
   ap (λ l. l ++ others) read.4 ∙ append_assoc read.0 read.1 others,
 )
 
-pub Run-append : (commands others : List Command) (old mid new : State) (first second : List Reply)
+pub Run-append : (commands others : List Command) (old mid new : Session) (first second : List Reply)
     → Run old commands first mid → Run mid others second new → Run old (commands ++ others) (first ++ second) new
 Run-append [] others old mid new first second run next = rw (run.1, ← run.0) next
 Run-append (command ∷ commands) others old mid new first second run next = (
@@ -40,7 +42,7 @@ Run-append (command ∷ commands) others old mid new first second run next = (
   ap (λ l. l ++ second) run.5 ∙ append_assoc run.1 run.2 second,
 )
 
-pub Progress-append : (old mid new : State) (held between holds : Option (List ℕ)) (lines more : List (List ℕ))
+pub Progress-append : (old mid new : Session) (held between holds : Option (List ℕ)) (lines more : List (List ℕ))
     → Progress old held lines mid between → Progress mid between more new holds → Progress old held (lines ++ more) new holds
 Progress-append old mid new held between holds lines more first second = record {
   commands = first.commands ++ second.commands;
@@ -51,33 +53,30 @@ Progress-append old mid new held between holds lines more first second = record 
 }
 
 -- a line that says a command is carried out as the command is
-pub LineEnds-from_command : (stop : Option LineStop) (old new : State) (held holds : Option (List ℕ)) (line : List ℕ) (command : Command)
-    → IsLineOf line command → CommandEnds stop old held command new holds → LineEnds stop old held line new holds
-LineEnds-from_command None old new held holds line command says ends = record {
+pub LineEnds-from_command : (stop : Option LineStop) (old new : Session) (held holds : Option (List ℕ)) (line : List ℕ) (command : Command)
+    → length line ≤ longest_line → script.Says line command → CommandEnds stop old held command new holds → LineEnds stop old held line new holds
+LineEnds-from_command None old new held holds line command short says ends = record {
   commands = command ∷ [];
   replies = ends.replies;
-  read = (command ∷ [], [], says, refl, refl);
+  read = (command ∷ [], [], record { short = short; says = says }, refl, refl);
   run = (new, ends.replies, [], ends.carries, (refl, refl), sym (append-nil ends.replies));
   written = ends.written;
 }
-LineEnds-from_command (Some Unwritten) old new held holds line command says ends = (command, says, ends)
-LineEnds-from_command (Some NoMemory) old new held holds line command says ends = (inr (command, says, ends.0), ends.1)
-LineEnds-from_command (Some Refused) old new held holds line command says ends = absurd ends
+LineEnds-from_command (Some Unwritten) old new held holds line command short says ends = (command, record { short = short; says = says }, ends)
+LineEnds-from_command (Some NoMemory) old new held holds line command short says ends = (inr (command, record { short = short; says = says }, ends.0), ends.1)
+LineEnds-from_command (Some Refused) old new held holds line command short says ends = absurd ends
+LineEnds-from_command (Some TooLong) old new held holds line command short says ends = absurd ends
 
 pub Appends-none : (held : Option (List ℕ)) → Appends held held []
 Appends-none None = tt
 Appends-none (Some bytes) = sym (append-nil bytes)
 
--- one reply is its line
-pub one_line : (reply : Reply) (line : List ℕ) → line ≡ full_line reply → line ≡ text (reply ∷ [])
-one_line reply line is = is ∙ sym (append-nil (full_line reply))
-
--- an empty line is carried out
-pub Progress-blank : (now : State) (held : Option (List ℕ)) (line : List ℕ) → line ≡ [] → Progress now held (line ∷ []) now held
-Progress-blank now held line blank = record {
+-- a blank line is carried out
+pub Progress-blank : (now : Session) (held : Option (List ℕ)) (line : List ℕ) → length line ≤ longest_line → IsBlank line → Progress now held (line ∷ []) now held
+Progress-blank now held line short blank = record {
   commands = [];
   replies = [];
-  read = ([], [], blank, refl, refl);
+  read = ([], [], record { short = short; says = blank }, refl, refl);
   run = (refl, refl);
   written = Appends-none held;
 }

@@ -1,80 +1,35 @@
 -- What every turn of the machine keeps, a run keeps.
-use Rattle.std.proofs.Common.{◌≡◌, ◌≢◌, ◌∙◌, ◌⊎◌, ◌<◌, ◌≤◌, ℕ, Bool, true, false, IsTrue, Option, None, Some, List, [], ◌∷◌, ◌++◌, length, Result, Ok, Err, refl, ap, sym, subst, inl, inr, arith, nat_lt, nat_le, ◌&&◌}
-use Rattle.std.proofs.lemmas.Bool.{leb-true}
-use Rattle.std.specs.List.{list_all}
+use Rattle.std.proofs.Common.{◌≡◌, ◌∙◌, ◌⊎◌, ℕ, zero, suc, Bool, true, false, Option, None, Some, List, [], ◌∷◌, ◌++◌, Result, Ok, Err, refl, ap, sym, subst, inl, inr}
 use Rattle.keel_base.specs.declared.op.Batch.{Batch}
+use Rattle.keel_disk.specs.declared.error.DiskError.TheVariants as disk
 use Rattle.keel_machine.specs.declared.answers.Admit.{Admit}
 use Rattle.keel_machine.specs.declared.answers.Admit.TheVariants as admit
 use Rattle.keel_machine.specs.declared.answers.Got.TheVariants as got
-use Rattle.keel_machine.specs.declared.answers.OpenRefusal.TheVariants as refusal
 use Rattle.keel_machine.specs.declared.answers.Outcome.{Outcome}
 use Rattle.keel_machine.specs.declared.answers.Outcome.TheVariants as outcome
 use Rattle.keel_machine.specs.declared.steps.WriteStep.{WriteStep}
 use Rattle.keel_machine.specs.declared.steps.WriteStep.TheVariants as step
 use Rattle.keel_machine.specs.States.{State}
-use Rattle.keel_machine.specs.Turns.{Event, Opening, Admitting, Writing, TakingOutcome, Getting, Turn}
-use Rattle.keel_recovery.specs.Machine.{is_open, IsWithinLimits, MayCall}
-use Rattle.keel_cli.specs.declared.command.Command.{Command}
-use Rattle.keel_cli.specs.declared.command.Command.TheVariants.{Open, Put, Get}
-use Rattle.keel_cli.specs.declared.reply.Reply.{Reply}
+use Rattle.keel_machine.specs.Turns.{Event, Opening, Admitting, Writing, TakingOutcome, Getting, Listing, Crashing, Turn}
+use Rattle.keel_reading.specs.declared.refusal.OpenRefusal.TheVariants as refusal
+use Rattle.keel_recovery.specs.Machine.{is_open, MayCall}
+use Rattle.keel_script.specs.declared.command.Command.{Command}
+use Rattle.keel_script.specs.declared.command.Command.TheVariants.{SetOption, Open, Put, Del, Drain, Tick, Get, Files, Crash}
+use Rattle.keel_script.specs.declared.option_name.OptionName.{OptionName}
+use Rattle.keel_script.specs.declared.reply.Reply.{Reply}
 use Rattle.keel_cli.specs.declared.lines.LineStop.{LineStop}
-use Rattle.keel_cli.specs.declared.lines.LineStop.TheVariants.{Refused, Unwritten, NoMemory}
-use Rattle.keel_cli.specs.Ends.{CutShort, Stops, StopsAt}
-use Rattle.keel_cli.specs.Grammar.{is_word, is_letter_or_digit, HasWords, Says, IsLineOf, AreCommands}
-use Rattle.keel_cli.specs.Puts.{put_batch, PutRun, PutCut, Queues, Waits}
-use Rattle.keel_cli.specs.Runs.{Carries, CarriesWhere, Partly, PartlyWhere, Run, Progress}
+use Rattle.keel_cli.specs.declared.lines.LineStop.TheVariants.{Refused, TooLong, Unwritten, NoMemory}
+use Rattle.keel_cli.specs.declared.lines.StopPlace.{StopPlace}
+use Rattle.keel_cli.specs.Cuts.{StoreCutShort, CutShort}
+use Rattle.keel_cli.specs.Drains.{Moves, DrainRun, DrainCut}
+use Rattle.keel_cli.specs.Ends.{Progress, Stops, StopsAt, LinesEnd, LineEnds}
+use Rattle.keel_cli.specs.Puts.{put_batch, del_batch, PutRun, PutCut, Queues, Waits}
+use Rattle.keel_cli.specs.Runs.{rest_reply, CrashRun, Calls, RestsOrCalls, CarriesOnStore, SetRun, Carries, CallsPartly, Run}
+use Rattle.keel_cli.specs.Sessions.{Session}
 use Rattle.keel_cli.proofs.Modes.{mode_written, mode_admitted}
 
--- ---- what lines say has words
-
-words_of_line : (line : List ℕ) (command : Command) → IsLineOf line command → HasWords command
-words_of_line line Open says = tt
-words_of_line line (Put key value sync) says = (says.0, says.1)
-words_of_line line (Get key) says = says.0
-
-abbrev HaveWords : List Command → Type 0
-HaveWords [] = Unit {0}
-HaveWords (command ∷ commands) = HasWords command × HaveWords commands
-
-words_in_front : (line : List ℕ) (said rest : List Command) → Says line said → HaveWords rest → HaveWords (said ++ rest)
-words_in_front line [] rest says words = words
-words_in_front line (command ∷ []) rest says words = (words_of_line line command says, words)
-words_in_front line (command ∷ other ∷ more) rest says words = absurd says
-
-words_of_lines : (lines : List (List ℕ)) (commands : List Command) → AreCommands lines commands → HaveWords commands
-words_of_lines [] commands are = rw are tt
-words_of_lines (line ∷ lines) commands are =
-    rw are.4 (words_in_front line are.0 are.1 are.2 (words_of_lines lines are.1 are.3))
-
--- ---- a batch of one put is within the limits
-
-and_left : (a b : Bool) → IsTrue (a && b) → IsTrue a
-and_left true b is = refl
-and_left false b is = absurd cc
-
-and_right : (a b : Bool) → IsTrue (a && b) → IsTrue b
-and_right true b is = is
-and_right false b is = absurd cc
-
-word_lengths : (word : List ℕ) → IsTrue (is_word word) → (1 ≤ length word) × (length word ≤ 64)
-word_lengths word is =
-    let letters = list_all is_letter_or_digit word in
-    let lengths = and_left (nat_lt 0 (length word) && nat_le (length word) 64) letters is in (
-      leb-true 1 (length word) (and_left (nat_lt 0 (length word)) (nat_le (length word) 64) lengths),
-      leb-true (length word) 64 (and_right (nat_lt 0 (length word)) (nat_le (length word) 64) lengths),
-    )
-
-put_is_within : (key value : List ℕ) (sync : Bool) → IsTrue (is_word key) → IsTrue (is_word value) → IsWithinLimits (put_batch key value sync)
-put_is_within key value sync key_is value_is =
-    let key_has = word_lengths key key_is in
-    let value_has = word_lengths value value_is in
-    record {
-      some = omega (arith);
-      few = omega (arith);
-      each = (((key_has.0, omega (arith, key_has.1)), (omega (arith), omega (arith, value_has.1))), tt);
-    }
-
--- ---- what is kept
+none_some : {A P : Type 0} (x : A) → Some x ≡ None → P
+none_some x e = cc
 
 module _ (C : State → Type 0) (keep : (old new : State) (event : Event) → MayCall old event → Turn old event new → C old → C new) where
   -- a store that is open and of which this holds stays so
@@ -82,10 +37,10 @@ module _ (C : State → Type 0) (keep : (old new : State) (event : Event) → Ma
     opened : is_open s.mode ≡ true
     kept : C s
 
-  admitted : (old new : State) (batch : Batch) (answer : Admit) → IsWithinLimits batch → Turn old (Admitting batch answer) new → IsKept old → IsKept new
-  admitted old new batch answer within turn is = record {
+  admitted : (old new : State) (batch : Batch) (answer : Admit) → Turn old (Admitting batch answer) new → IsKept old → IsKept new
+  admitted old new batch answer turn is = record {
     opened = ap (λ (s : State). is_open s.mode) turn.1 ∙ (ap is_open (mode_admitted old batch answer) ∙ is.opened);
-    kept = keep old new (Admitting batch answer) (is.opened, within) turn is.kept;
+    kept = keep old new (Admitting batch answer) is.opened turn is.kept;
   }
 
   written : (old new : State) (held : Option ℕ) (made : WriteStep) → Turn old (Writing held made) new → IsKept old → IsKept new
@@ -100,71 +55,123 @@ module _ (C : State → Type 0) (keep : (old new : State) (event : Event) → Ma
     kept = keep old new (TakingOutcome ticket outcome) is.opened turn is.kept;
   }
 
+  -- ---- writes
+
   waited : (old new : State) (ticket : ℕ) (steps : List WriteStep) → Waits old ticket steps new → IsKept old → IsKept new
   waited old new ticket [] same is = rw same is
   waited old new ticket (made ∷ earlier) waits is =
       written waits.1 new None made waits.4 (taken waits.0 waits.1 ticket outcome.Waiting waits.3 (waited old waits.0 ticket earlier waits.2 is))
 
-  queued : (old new : State) (batch : Batch) (ticket : ℕ) (steps : List WriteStep) → IsWithinLimits batch → Queues old batch ticket steps new → IsKept old → IsKept new
-  queued old new batch ticket steps within queues is =
-      waited queues.mid new ticket steps queues.waits (admitted old queues.mid batch (admit.Queued ticket) within queues.queued is)
+  queued : (old new : State) (batch : Batch) (ticket : ℕ) (steps : List WriteStep) → Queues old batch ticket steps new → IsKept old → IsKept new
+  queued old new batch ticket steps queues is =
+      waited queues.mid new ticket steps queues.waits (admitted old queues.mid batch (admit.Queued ticket) queues.queued is)
 
-  put : (old new : State) (batch : Batch) (replies : List Reply) → IsWithinLimits batch → PutRun old batch replies new → IsKept old → C new
-  put old new batch replies within (inl refused) is = (admitted old new batch refused.answer within refused.turn is).kept
-  put old new batch replies within (inr (inl settled)) is =
-      (taken settled.last new settled.ticket settled.outcome settled.taken
-      (queued old settled.last batch settled.ticket settled.steps within settled.queues is)).kept
-  put old new batch replies within (inr (inr waits)) is =
-      (queued old new batch waits.ticket (step.Spent waits.counter ∷ waits.steps) within waits.queues is).kept
+  put : (old new : State) (batch : Batch) (replies : List Reply) → PutRun old batch replies new → IsKept old → C new
+  put old new batch replies (inl refused) is = (admitted old new batch refused.answer refused.turn is).kept
+  put old new batch replies (inr (inl settled)) is =
+      (taken settled.last new settled.ticket settled.outcome settled.taken (queued old settled.last batch settled.ticket settled.steps settled.queues is)).kept
+  put old new batch replies (inr (inr waits)) is = (queued old new batch waits.ticket (step.Spent waits.counter ∷ waits.steps) waits.queues is).kept
 
-  put_cut : (old new : State) (batch : Batch) → IsWithinLimits batch → PutCut old batch new → IsKept old → C new
-  put_cut old new batch within (inl turn) is = (admitted old new batch admit.OutOfMemory within turn is).kept
-  put_cut old new batch within (inr cut) is = (queued old new batch cut.0 (step.OutOfMemory ∷ cut.1) within cut.2 is).kept
+  put_cut : (old new : State) (batch : Batch) → PutCut old batch new → IsKept old → C new
+  put_cut old new batch (inl turn) is = (admitted old new batch admit.OutOfMemory turn is).kept
+  put_cut old new batch (inr cut) is = (queued old new batch cut.0 (step.OutOfMemory ∷ cut.1) cut.2 is).kept
 
-  carried_where : (b : Bool) (old new : State) (command : Command) (replies : List Reply) → is_open old.mode ≡ b → HasWords command
-      → CarriesWhere b old command replies new → C old → C new
-  carried_where true old new Open replies opened words rests kept = rw rests.same kept
-  carried_where true old new (Put key value sync) replies opened words runs kept =
-      put old new (put_batch key value sync) replies (put_is_within key value sync words.0 words.1) runs (record { opened = opened; kept = kept })
-  carried_where true old new (Get key) replies opened words runs kept = keep old new (Getting key runs.answer) opened runs.turn kept
-  carried_where false old new Open replies opened words runs kept = keep old new (Opening runs.answer) opened runs.turn kept
-  carried_where false old new (Put key value sync) replies opened words rests kept = rw rests.same kept
-  carried_where false old new (Get key) replies opened words rests kept = rw rests.same kept
+  -- ---- drains
 
-  carried : (old new : State) (command : Command) (replies : List Reply) → HasWords command → Carries old command replies new → C old → C new
-  carried old new command replies words carries kept = carried_where (is_open old.mode) old new command replies refl words carries kept
+  moved : (old new : State) (made : ℕ) → Moves old made new → IsKept old → IsKept new
+  moved old new zero same is = rw same is
+  moved old new (suc made) moves is = written moves.0 new None moves.1 moves.4 (moved old moves.0 made moves.2 is)
 
-  partly_where : (b : Bool) (old new : State) (command : Command) → is_open old.mode ≡ b → HasWords command → PartlyWhere b old command new → C old → C new
-  partly_where true old new Open opened words partly kept = absurd partly
-  partly_where true old new (Put key value sync) opened words cut kept =
-      put_cut old new (put_batch key value sync) (put_is_within key value sync words.0 words.1) cut (record { opened = opened; kept = kept })
-  partly_where true old new (Get key) opened words turn kept = keep old new (Getting key got.OutOfMemory) opened turn kept
-  partly_where false old new Open opened words turn kept = keep old new (Opening (Err refusal.OutOfMemory)) opened turn kept
-  partly_where false old new (Put key value sync) opened words partly kept = absurd partly
-  partly_where false old new (Get key) opened words partly kept = absurd partly
+  drained : (moves : ℕ) (old new : State) (replies : List Reply) → DrainRun moves old replies new → IsKept old → C new
+  drained moves old new replies (inl quiet) is = (written quiet.last new None quiet.step quiet.turn (moved old quiet.last quiet.made quiet.moved is)).kept
+  drained moves old new replies (inr more) is = (moved old new moves more.moved is).kept
 
-  run : (commands : List Command) (old new : State) (replies : List Reply) → HaveWords commands → Run old commands replies new → C old → C new
-  run [] old new replies words same kept = rw same.0 kept
-  run (command ∷ commands) old new replies words runs kept =
-      run commands runs.0 new runs.2 words.1 runs.4 (carried old runs.0 command runs.1 words.0 runs.3 kept)
+  drain_cut : (moves : ℕ) (old new : State) → DrainCut moves old new → IsKept old → C new
+  drain_cut moves old new cut is = (written cut.1 new None step.OutOfMemory cut.4 (moved old cut.1 cut.0 cut.3 is)).kept
 
-  pub progressed : (old new : State) (held holds : Option (List ℕ)) (lines : List (List ℕ)) → Progress old held lines new holds → C old → C new
-  progressed old new held holds lines progress kept =
-      run progress.commands old new progress.replies (words_of_lines lines progress.commands progress.read) progress.run kept
+  -- ---- commands on the store
 
-  cut : (old new : State) (command : Command) → HasWords command → CutShort old command new → C old → C new
-  cut old new command words (inl same) kept = rw same kept
-  cut old new command words (inr (inl carries)) kept = carried old new command carries.0 words carries.1 kept
-  cut old new command words (inr (inr partly)) kept = partly_where (is_open old.mode) old new command refl words partly kept
+  crashed : (b : Bool) (old new : State) (replies : List Reply) → CrashRun b old replies new → C old → C new
+  crashed true old new replies run kept = keep old new (Crashing run.0) tt run.1 kept
+  crashed false old new replies rests kept = rw rests.same kept
 
-  stopped : (stop : LineStop) (old new : State) (held holds : Option (List ℕ)) (line : List ℕ) → Stops stop old held line new holds → C old → C new
-  stopped Refused old new held holds line stops kept = rw stops.1 kept
-  stopped Unwritten old new held holds line stops kept =
-      carried old new stops.0 stops.2.replies (words_of_line line stops.0 stops.1) stops.2.carries kept
-  stopped NoMemory old new held holds line (inl same, quiet) kept = rw same kept
-  stopped NoMemory old new held holds line (inr stops, quiet) kept = cut old new stops.0 (words_of_line line stops.0 stops.1) stops.2 kept
+  calls : (b : Bool) (old new : State) (command : Command) (replies : List Reply) → is_open old.mode ≡ b → rest_reply b command ≡ None → Calls old command replies new → C old → C new
+  calls true old new Open replies opened none run kept = none_some _ none
+  calls false old new Open replies opened none run kept = keep old new (Opening run.answer) opened run.turn kept
+  calls true old new (Put key value sync) replies opened none run kept = put old new (put_batch key value sync) replies run (record { opened = opened; kept = kept })
+  calls false old new (Put key value sync) replies opened none run kept = none_some _ none
+  calls true old new (Del key sync) replies opened none run kept = put old new (del_batch key sync) replies run (record { opened = opened; kept = kept })
+  calls false old new (Del key sync) replies opened none run kept = none_some _ none
+  calls true old new (Get key) replies opened none run kept = keep old new (Getting key run.answer) opened run.turn kept
+  calls false old new (Get key) replies opened none run kept = none_some _ none
+  calls true old new (Drain moves) replies opened none run kept = drained moves old new replies run (record { opened = opened; kept = kept })
+  calls false old new (Drain moves) replies opened none run kept = none_some _ none
+  calls b old new Files replies opened none run kept = keep old new (Listing run.answer) tt run.turn kept
+  calls b old new (Crash dirops keep_ garbage seed) replies opened none run kept = crashed old.device.simulated old new replies run kept
+  calls b old new command replies opened none run kept = absurd run
 
-  pub stopped_at : (stop : LineStop) (old new : State) (held holds : Option (List ℕ)) (lines : List (List ℕ)) (number : ℕ)
-      → StopsAt stop old held lines number new holds → C old → C new
-  stopped_at stop old new held holds lines number stops kept =
-      stopped stop stops.mid new stops.holds_mid holds stops.line stops.stops (progressed old stops.mid held stops.holds_mid stops.before stops.progress kept)
+  rests_or_calls : (r : Option Reply) (old new : State) (command : Command) (replies : List Reply) → rest_reply (is_open old.mode) command ≡ r → RestsOrCalls r old command replies new → C old → C new
+  rests_or_calls None old new command replies is run kept = calls (is_open old.mode) old new command replies refl is run kept
+  rests_or_calls (Some reply) old new command replies is rests kept = rw rests.same kept
+
+  on_store : (old new : State) (command : Command) (replies : List Reply) → CarriesOnStore old command replies new → C old → C new
+  on_store old new command replies run kept = rests_or_calls (rest_reply (is_open old.mode) command) old new command replies refl run kept
+
+  partly : (b : Bool) (old new : State) (command : Command) → is_open old.mode ≡ b → rest_reply b command ≡ None → CallsPartly old command new → C old → C new
+  partly true old new Open opened none turn kept = none_some _ none
+  partly false old new Open opened none turn kept = keep old new (Opening (Err refusal.OutOfMemory)) opened turn kept
+  partly true old new (Put key value sync) opened none cut kept = put_cut old new (put_batch key value sync) cut (record { opened = opened; kept = kept })
+  partly false old new (Put key value sync) opened none cut kept = none_some _ none
+  partly true old new (Del key sync) opened none cut kept = put_cut old new (del_batch key sync) cut (record { opened = opened; kept = kept })
+  partly false old new (Del key sync) opened none cut kept = none_some _ none
+  partly true old new (Get key) opened none turn kept = keep old new (Getting key got.OutOfMemory) opened turn kept
+  partly false old new (Get key) opened none turn kept = none_some _ none
+  partly true old new (Drain moves) opened none cut kept = drain_cut moves old new cut (record { opened = opened; kept = kept })
+  partly false old new (Drain moves) opened none cut kept = none_some _ none
+  partly b old new Files opened none turn kept = keep old new (Listing (Err disk.OutOfMemory)) tt turn kept
+  partly b old new command opened none cut kept = absurd cut
+
+  store_cut : (old new : State) (command : Command) → StoreCutShort old command new → C old → C new
+  store_cut old new command (inl same) kept = rw same kept
+  store_cut old new command (inr (inl carries)) kept = on_store old new command carries.0 carries.1 kept
+  store_cut old new command (inr (inr cut)) kept = partly (is_open old.mode) old new command refl cut.0 cut.1 kept
+
+  -- ---- commands of a session
+
+  same_store : (old new : Session) → new.store ≡ old.store → C old.store → C new.store
+  same_store old new same kept = subst C (sym same) kept
+
+  set : (b : Bool) (old new : Session) (name : OptionName) (value : ℕ) (replies : List Reply) → SetRun b old name value replies new → C old.store → C new.store
+  set true old new name value replies rests kept = same_store old new (ap (λ (s : Session). s.store) rests.same) kept
+  set false old new name value replies (inl is_set) kept = same_store old new (ap (λ (s : Session). s.store) is_set.rest) kept
+  set false old new name value replies (inr out) kept = same_store old new (ap (λ (s : Session). s.store) out.rests.same) kept
+
+  pub carried : (old new : Session) (command : Command) (replies : List Reply) → Carries old command replies new → C old.store → C new.store
+  carried old new (SetOption name value) replies run kept = set (is_open old.store.mode) old new name value replies run kept
+  carried old new (Tick ticks) replies run kept = same_store old new (ap (λ (s : Session). s.store) run.passes) kept
+  carried old new command replies run kept = on_store old.store new.store command replies run.carries kept
+
+  cut : (old new : Session) (command : Command) → CutShort old command new → C old.store → C new.store
+  cut old new command (inl short) kept = store_cut old.store new.store command short.cut kept
+  cut old new command (inr carries) kept = carried old new command carries.0 carries.1 kept
+
+  run : (commands : List Command) (old new : Session) (replies : List Reply) → Run old commands replies new → C old.store → C new.store
+  run [] old new replies same kept = same_store old new (ap (λ (s : Session). s.store) same.0) kept
+  run (command ∷ commands) old new replies runs kept = run commands runs.0 new runs.2 runs.4 (carried old runs.0 command runs.1 runs.3 kept)
+
+  pub progressed : (old new : Session) (held holds : Option (List ℕ)) (lines : List (List ℕ)) → Progress old held lines new holds → C old.store → C new.store
+  progressed old new held holds lines progress kept = run progress.commands old new progress.replies progress.run kept
+
+  -- ---- ends
+
+  stopped : (stop : LineStop) (old new : Session) (held holds : Option (List ℕ)) (line : List ℕ) → Stops stop old held line new holds → C old.store → C new.store
+  stopped Refused old new held holds line stops kept = same_store old new (ap (λ (s : Session). s.store) stops.1) kept
+  stopped TooLong old new held holds line stops kept = same_store old new (ap (λ (s : Session). s.store) stops.1) kept
+  stopped Unwritten old new held holds line stops kept = carried old new stops.0 stops.2.replies stops.2.carries kept
+  stopped NoMemory old new held holds line (inl same, quiet) kept = same_store old new (ap (λ (s : Session). s.store) same) kept
+  stopped NoMemory old new held holds line (inr stops, quiet) kept = cut old new stops.0 stops.2 kept
+
+  pub lines_end : (stop : Option StopPlace) (old new : Session) (held holds : Option (List ℕ)) (lines : List (List ℕ)) → LinesEnd stop old held lines new holds → C old.store → C new.store
+  lines_end None old new held holds lines progress kept = progressed old new held holds lines progress kept
+  lines_end (Some at) old new held holds lines stops kept =
+      stopped at.stop stops.mid new stops.holds_mid holds stops.line stops.stops (progressed old stops.mid held stops.holds_mid stops.before stops.progress kept)

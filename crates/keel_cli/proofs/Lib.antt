@@ -3,7 +3,7 @@ pub mod FirstLine
 pub mod GoingOn
 pub mod SoFar
 pub mod Tickets
-pub mod Shutting
+pub mod Sizes
 pub mod PutTurns
 pub mod Carrying
 pub mod Modes

@@ -1,11 +1,13 @@
 -- The calls of a put, from one core to the next.
-use Rattle.std.proofs.Common.{◌≡◌, ℕ, ◌==◌, not, Bool, true, false, List, [], ◌∷◌, Option, Some, None, option_map, refl, sym, subst, inl, inr}
+use Rattle.std.proofs.Common.{◌≡◌, ◌≢◌, ℕ, ◌==◌, not, Bool, true, false, List, [], ◌∷◌, Option, Some, None, option_map, length, refl, sym, ap, ◌∙◌, subst, inl, inr}
 use Rattle.keel_base.specs.declared.failure.Counter.{Counter}
 use Rattle.keel_base.specs.declared.failure.Counter.TheVariants.{JobNumber, FileNumber}
 use Rattle.keel_base.specs.declared.failure.Failure.{Failure}
 use Rattle.keel_base.specs.declared.op.Batch.{Batch}
 use Rattle.keel_machine.specs.declared.answers.Admit.{Admit}
 use Rattle.keel_machine.specs.declared.answers.Admit.TheVariants as admit
+use Rattle.keel_machine.specs.declared.answers.Part.{Part}
+use Rattle.keel_machine.specs.declared.answers.Part.TheVariants as part
 use Rattle.keel_machine.specs.declared.answers.Outcome.{Outcome}
 use Rattle.keel_machine.specs.declared.answers.Outcome.TheVariants as outcome
 use Rattle.keel_machine.specs.declared.steps.WriteStep.{WriteStep}
@@ -20,6 +22,7 @@ use Rattle.keel_script.specs.declared.reply.Reply.{Reply}
 use Rattle.keel_script.specs.declared.reply.Reply.TheVariants as reply
 use Rattle.keel_cli.specs.Places.{AreTold, CoreLeads}
 use Rattle.keel_cli.specs.Puts.{Queues, PutRun, PutCut, refusal_replies, outcome_replies}
+use Rattle.keel_cli.proofs.Sizes.{one_op_fits}
 use Rattle.keel_cli.proofs.Tickets.{KnownIn, state_at, stands_at, told_in, told_filter, fine_in, queued_fine, write_fine, Known, told_known, waits_known}
 
 -- the calls so far: the batch was queued, and write steps were made while it waited
@@ -167,12 +170,9 @@ pub never_cancelled : (core new : CoreView) (job current : ℕ) → Turns core (
 never_cancelled core new job current turns =
     no_rest (state_at core) (state_at core).jobs.write.running job current (turns.goes (state_at core) (stands_at core)).0.first
 
--- ---- of one op, no count and no weight is refused
-
-no_part : {A : Type 0} (x y : A) → (x ≡ y → ⊥) → (rest : Option A) → first_some (Some x ∷ rest ∷ []) ≡ Some y → ⊥
-no_part x y differs rest e = differs cc
-
-one_of : (ops : List Op) → length ops ≡ 1 → (op : Op) × (ops ≡ op ∷ [])
-one_of [] one = absurd (omega (arith, one))
-one_of (op ∷ []) one = (op, refl)
-one_of (op ∷ next ∷ ops) one = absurd (omega (arith, one))
+-- of a batch of one op, the part that isn't within its limits is its key or its value
+pub size_named : (core new : CoreView) (batch : Batch) (part_ : Part) (size : ℕ) → Turns core (Admitting batch (admit.BadSize part_ size)) new → length batch.ops ≡ 1
+    → part_ ≢ part.Batch
+size_named core new batch part_ size turns one is =
+    let answered = (turns.goes (state_at core) (stands_at core)).0.0 in
+    one_op_fits (state_at core) batch size one (answered ∙ ap (λ (p : Part). Some (admit.BadSize p size)) is)

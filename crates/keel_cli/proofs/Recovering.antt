@@ -1,23 +1,40 @@
--- The device of a run's last state stands for its story.
-use Rattle.std.proofs.Common.{◌≡◌, ℕ, true, Option, List, refl}
-use Rattle.keel_machine.specs.States.{State, Seen}
-use Rattle.keel_recovery.specs.Machine.{IsCovered}
+-- What the device of a run's last state stands for.
+use Rattle.std.specs.Prelude.{◌-◌, ◌^◌, ◌<◌}
+use Rattle.std.proofs.Common.{◌≡◌, ℕ, Option, List, refl, sym, ap, subst, inl, inr, ⊎_elim, arith}
+use Rattle.keel_disk.specs.Told.{Told}
+use Rattle.keel_machine.specs.States.{State, Seen, Footing, Known, Unknown}
+use Rattle.keel_recovery.specs.Machine.{RestsIn, IsCovered, IsCounted, forged_of}
+use Rattle.keel_recovery.proofs.Forging.{footing_stays}
 use Rattle.keel_recovery.proofs.Machine.{turn_keeps, covered_stands, starts_covered}
-use Rattle.keel_cli.specs.declared.lines.LineStop.{LineStop}
-use Rattle.keel_cli.specs.Ends.{StopsAt}
-use Rattle.keel_cli.specs.Runs.{Progress, unopened}
-use Rattle.keel_cli.specs.Standing.{Recovers}
-use Rattle.keel_cli.proofs.Keeping.{progressed, stopped_at}
+use Rattle.keel_cli.specs.declared.lines.StopPlace.{StopPlace}
+use Rattle.keel_cli.specs.Ends.{LinesEnd}
+use Rattle.keel_cli.specs.Sessions.{Session, Begins, MayBegin, unopened}
+use Rattle.keel_cli.specs.Standing.{NoneForged, Recovers}
+use Rattle.keel_cli.proofs.Keeping.{lines_end}
 
-recovers : (handed_in : Seen) (last : State) → (IsCovered (unopened handed_in) → IsCovered last) → Recovers handed_in last
-recovers handed_in last keeps rests one_open = covered_stands last one_open (keeps (starts_covered (unopened handed_in) refl rests))
+rests_where : (footing : Footing) (told : Option Told) → MayBegin footing told → footing ≡ Known → RestsIn told
+rests_where Known told may is = may
+rests_where Unknown told may is = cc
 
-pub recovers_at_end : (handed_in : Seen) (last : State) (held holds : Option (List ℕ)) (lines : List (List ℕ))
-    → Progress (unopened handed_in) held lines last holds → Recovers handed_in last
-recovers_at_end handed_in last held holds lines progress =
-    recovers handed_in last (progressed IsCovered turn_keeps (unopened handed_in) last held holds lines progress)
+pub first_covered : (footing : Footing) (handed_in : Seen) (first : Session) → Begins footing handed_in first → MayBegin footing handed_in.told → IsCovered first.store
+first_covered footing handed_in first begins may =
+    subst IsCovered (sym begins.store) (starts_covered (unopened footing handed_in) refl (rests_where footing handed_in.told may))
 
-pub recovers_stopped : (stop : LineStop) (handed_in : Seen) (last : State) (held holds : Option (List ℕ)) (lines : List (List ℕ)) (number : ℕ)
-    → StopsAt stop (unopened handed_in) held lines number last holds → Recovers handed_in last
-recovers_stopped stop handed_in last held holds lines number stops =
-    recovers handed_in last (stopped_at IsCovered turn_keeps stop (unopened handed_in) last held holds lines number stops)
+first_counted : (footing : Footing) (handed_in : Seen) → footing ≡ Known → IsCounted (forged_of handed_in.told) (unopened footing handed_in)
+first_counted footing handed_in known = record { least = omega arith; risen = inl known }
+
+still_known : (handed_in : Option Told) (last : State) → NoneForged handed_in last.device.told → IsCounted (forged_of handed_in) last → last.footing ≡ Known
+still_known handed_in last none counted = ⊎_elim (λ known. known) (λ more. absurd (omega (arith, more, none.same))) counted.risen
+
+pub recovers : (stop : Option StopPlace) (footing : Footing) (handed_in : Seen) (first last : Session) (held holds : Option (List ℕ)) (lines : List (List ℕ))
+    → MayBegin footing handed_in.told → Begins footing handed_in first → LinesEnd stop first held lines last holds → Recovers footing handed_in.told last.store
+recovers stop footing handed_in first last held holds lines may begins ends =
+    let covered : IsCovered last.store = lines_end IsCovered turn_keeps stop first last held holds lines ends (first_covered footing handed_in first begins may) in
+    let count = forged_of handed_in.told in
+    record {
+      known = λ known none.
+          let counted : IsCounted count first.store = subst (IsCounted count) (sym begins.store) (first_counted footing handed_in known) in
+          still_known handed_in.told last.store none
+          (lines_end (IsCounted count) (λ old new event may_call turn. footing_stays count old new event none.counts turn) stop first last held holds lines ends counted);
+      stands = λ known begun. covered_stands last.store known begun covered;
+    }

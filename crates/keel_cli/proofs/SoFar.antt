@@ -1,15 +1,14 @@
 -- How far the loop over the lines has come.
 use Rattle.std.proofs.Common.{◌≡◌, ℕ, ◌+◌, ◌<◌, Option, None, Some, List, [], ◌∷◌, ◌++◌, length, take, drop, ap, sym, ◌∙◌, arith, append_assoc, length-append, append-nil, refl, add-one, ◌≤◌}
-use Rattle.keel_machine.specs.States.{State}
 use Rattle.keel_cli.specs.declared.lines.LineStop.{LineStop}
-use Rattle.keel_cli.specs.Ends.{LineEnds, StopsAt}
+use Rattle.keel_cli.specs.Ends.{Progress, LineEnds, StopsAt}
 use Rattle.keel_cli.specs.Grammar.{lines_of, length_before}
-use Rattle.keel_cli.specs.Runs.{Progress}
+use Rattle.keel_cli.specs.Sessions.{Session}
 use Rattle.keel_cli.proofs.FirstLine.{lines_of-first}
 use Rattle.keel_cli.proofs.GoingOn.{Appends-none, Progress-append}
 
 -- the lines up to here were carried out, and these bytes are left
-pub record SoFar (old : State) (held : Option (List ℕ)) (input rest : List ℕ) (number : ℕ) (new : State) (holds : Option (List ℕ)) : Type 0 where
+pub record SoFar (old : Session) (held : Option (List ℕ)) (input rest : List ℕ) (number : ℕ) (new : Session) (holds : Option (List ℕ)) : Type 0 where
   pub front : List (List ℕ)
   pub lines_are : lines_of input ≡ front ++ lines_of rest
   pub number_is : number ≡ length front
@@ -25,7 +24,7 @@ first_of : (rest : List ℕ) → 0 < length rest → lines_of rest ≡ line_at r
 first_of rest some = rw add-one (lines_of-first rest some)
 
 -- the run stops at the next line
-pub SoFar-stops : (stop : LineStop) (old mid new : State) (held between holds : Option (List ℕ)) (input rest : List ℕ) (number : ℕ)
+pub SoFar-stops : (stop : LineStop) (old mid new : Session) (held between holds : Option (List ℕ)) (input rest : List ℕ) (number : ℕ)
     → SoFar old held input rest number mid between → 0 < length rest → LineEnds (Some stop) mid between (line_at rest) new holds
     → StopsAt stop old held (lines_of input) (number + 1) new holds
 SoFar-stops stop old mid new held between holds input rest number so_far some ends = record {
@@ -41,7 +40,7 @@ SoFar-stops stop old mid new held between holds input rest number so_far some en
 }
 
 -- the next line was carried out
-pub SoFar-goes_on : (old mid new : State) (held between holds : Option (List ℕ)) (input rest : List ℕ) (number : ℕ)
+pub SoFar-goes_on : (old mid new : Session) (held between holds : Option (List ℕ)) (input rest : List ℕ) (number : ℕ)
     → SoFar old held input rest number mid between → 0 < length rest → LineEnds None mid between (line_at rest) new holds
     → SoFar old held input (rest_after rest) (number + 1) new holds
 SoFar-goes_on old mid new held between holds input rest number so_far some ends = record {
@@ -54,7 +53,7 @@ SoFar-goes_on old mid new held between holds input rest number so_far some ends 
 }
 
 -- no line was carried out yet
-pub SoFar-begins : (old : State) (held : Option (List ℕ)) (input : List ℕ) → SoFar old held input input 0 old held
+pub SoFar-begins : (old : Session) (held : Option (List ℕ)) (input : List ℕ) → SoFar old held input input 0 old held
 SoFar-begins old held input = record {
   front = [];
   lines_are = refl;
@@ -63,7 +62,7 @@ SoFar-begins old held input = record {
 }
 
 -- all lines were carried out
-pub SoFar-ends : (old new : State) (held holds : Option (List ℕ)) (input rest : List ℕ) (number : ℕ)
+pub SoFar-ends : (old new : Session) (held holds : Option (List ℕ)) (input rest : List ℕ) (number : ℕ)
     → SoFar old held input rest number new holds → length rest ≤ 0 → Progress old held (lines_of input) new holds
 SoFar-ends old new held holds input [] number so_far none = rw (so_far.lines_are, append-nil so_far.front) so_far.progress
 SoFar-ends old new held holds input (byte ∷ rest) number so_far none = absurd (omega (arith, none))

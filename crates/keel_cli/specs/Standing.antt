@@ -1,13 +1,8 @@
 -- What the device stands for that a run hands back.
-use Rattle.std.specs.Prelude.{◌≡◌, ◌≢◌, ℕ, ◌<◌, ◌-◌, ◌^◌, Option, Some, None}
+use Rattle.std.specs.Prelude.{◌≡◌, ◌≢◌, ℕ, ◌<◌, ◌-◌, ◌^◌, Option}
 use Rattle.keel_disk.specs.Told.{Told}
 use Rattle.keel_machine.specs.States.{State, Footing, Known, Unopened}
-use Rattle.keel_recovery.specs.Machine.{StandsIn}
-
--- how many images a device has counted that were forged
-abbrev pub forged_of : Option Told → ℕ
-forged_of None = 0
-forged_of (Some told) = told.forged
+use Rattle.keel_recovery.specs.Machine.{StandsIn, forged_of}
 
 -- no crash of the run left a forged image; a count at its end would say nothing
 pub record NoneForged (before after : Option Told) : Type 0 where

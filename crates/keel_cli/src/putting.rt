@@ -2,7 +2,7 @@
 ghost use Rattle.std.specs.Prelude.{◌≡◌, ◌≢◌, ◌⊎◌, [], ◌∷◌, IfOk, OnErr, Some, length};
 ghost use Rattle.keel_machine.specs.States.{State};
 ghost use Rattle.keel_machine.specs.declared.answers.Admit.TheVariants.{BadSize};
-ghost use Rattle.keel_machine.specs.declared.answers.Part.TheVariants as part;
+ghost use Rattle.keel_machine.specs.declared.answers.Part.TheVariants as parts;
 ghost use Rattle.keel_core.specs.Views.{StandsFor};
 ghost use Rattle.keel_cli.specs.Places.{AreTold, CoreLeads};
 ghost use Rattle.keel_cli.specs.Puts.{put_batch as batch_of_put, del_batch as batch_of_del, refusal_replies, PutRun, PutCut};
@@ -25,7 +25,7 @@ fn one_op(alloc: Global, op: Op, sync: bool) -> Result<Batch, OutOfMemory>
 
 // What a length outside its limits is answered. Of one op, it is that of the key or the value.
 fn size_reply(part: Part, length: u64) -> Reply
-    requires { part ≢ part.Batch }
+    requires { part ≢ parts.Batch }
     ensures { refusal_replies (BadSize part length) ≡ Some (result ∷ []) }
 {
     match part {
