@@ -1,4 +1,4 @@
--- Opening a store: what is asked of the device, and what an open store then shows.
+-- Opening a store: what is asked of the state, and what the store then shows.
 use Rattle.std.specs.Prelude.{◌≡◌, Bool, true, false, [], length, Some, None, Ok}
 use Rattle.keel_disk.specs.Plain.{image_read}
 use Rattle.keel_disk.specs.State.{directory_read}
@@ -23,11 +23,12 @@ pub record IsBorneOut (s : State) : Type 0 where
   pub names : AreNames (directory_read told.state)
   pub reads : Reads (image_read told.state) (point_of s.story)
 
+-- so it is where the opening goes on with the story, and where it begins one nothing is asked
 abbrev pub WhereGoesOn : Bool → State → Type 0
 WhereGoesOn true s = IsBorneOut s
 WhereGoesOn false s = Unit {0}
 
--- an opening that goes on with a story asks that the device bears it out
+-- what an opening asks of the state
 abbrev pub Expects : State → Type 0
 Expects s = WhereGoesOn (continues s.mode s.footing) s
 

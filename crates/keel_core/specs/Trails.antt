@@ -30,6 +30,7 @@ base_of trail = point_read trail.read
 abbrev pub no_trail : List Numbered → TrailShown
 no_trail read = record { read = read; log = []; limbo = []; floor = 0 }
 
+-- it shows so, and holds no batch
 pub record IsEmptyTrail (read : List Numbered) (t : Trail) : Type 0 where
   pub shows : shown t ≡ no_trail read
   pub none : vec_len t.batches ≡ 0

@@ -23,7 +23,8 @@ pub struct Refused<D: Disk> {
 
 impl<D: Disk> Core<D> {
     /// Opens the store in the directory of the device: it goes on behind the batches of the logs there. It changes
-    /// nothing there.
+    /// nothing there. It is refused as `read_logs` refuses to read, and the device is then as it was, but for the
+    /// fault that it counted.
     pub fn open(alloc: Global, disk: D) -> Result<Core<D>, Refused<D>>
         // A store's story goes on where the device bears it out.
         ensures ok { (s : State) → s.device ≡ seen (D.told disk) (D.changes disk) (D.faults disk) (D.last_fault disk) (D.is_simulated disk) → Expects s

@@ -5,6 +5,7 @@ ghost use Rattle.keel_disk.specs.Told.{Arranges};
 ghost use Rattle.keel_machine.specs.declared.answers.Outcome.TheVariants.{Waiting};
 ghost use Rattle.keel_machine.specs.Turns as event;
 ghost use Rattle.keel_machine.specs.Turns.{Admitting, Getting, TakingOutcome};
+ghost use Rattle.keel_core.specs.Trails.{shown};
 ghost use Rattle.keel_core.specs.Views.{Turns, point_in, calls_left, with_told};
 
 use crate::log::OwnLog;
@@ -68,7 +69,9 @@ impl<D: Disk> Core<D> {
     }
 
     /// The batches that the opening read, and those since.
-    pub fn trail(&self) -> &Trail {
+    pub fn trail(&self) -> &Trail
+        ensures { shown result.now ≡ self.now.trail }
+    {
         &self.trail
     }
 
