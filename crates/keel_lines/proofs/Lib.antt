@@ -1,0 +1,4 @@
+pub mod Deliveries
+mod Lefts
+mod Parts
+pub mod Texts
