@@ -5,10 +5,14 @@ use Rattle.keel_base.specs.declared.listing.Entry.{Entry}
 use Rattle.keel_base.specs.declared.memory.OutOfMemory.{OutOfMemory}
 use Rattle.keel_disk.specs.declared.error.DiskError.{DiskError}
 use Rattle.keel_disk.specs.declared.error.DiskError.TheVariants as disk
-use Rattle.keel_disk.specs.Told.{Told}
+use Rattle.keel_base.specs.declared.failure.Fault.{Fault}
+use Rattle.keel_disk.specs.Counts.{FaultCounted, disk_fault}
+use Rattle.keel_disk.specs.Listings.{IsListing}
+use Rattle.keel_disk.specs.Told.{Told, Crashes, TellsListing}
 use Rattle.keel_machine.specs.declared.answers.Got.{Got}
 use Rattle.keel_machine.specs.declared.answers.Got.TheVariants as got
 use Rattle.keel_machine.specs.Opening.{continues}
+use Rattle.keel_machine.specs.Outside.{seen}
 use Rattle.keel_machine.specs.States.{State, Seen, Footing, Known, Unknown, Mode, Unopened, Closed, Open as Opened, with_device}
 use Rattle.keel_machine.specs.Turns.{Turn, Answers, after, Opening, Getting, Listing, Crashing}
 use Rattle.keel_machine.specs.Crash.{crash_after, mode_crashed}
@@ -79,7 +83,7 @@ read_told old new key answer turns told =
 
 -- ---- answers of one reply
 
-no_err : {T E P : Type 0} (x : T) → IsErr {T} {E} (Ok x) → P
+no_err : {P : Type 0} (x : Answer) → IsErr (let r : Result Answer OutOfMemory = Ok x in r) → P
 no_err x h = absurd cc
 
 module _ (V : Type 0) (shown : V → Seen) (s : State) (command : Command) where
@@ -237,3 +241,37 @@ module _ (V : Type 0) (shown : V → Seen) (s : State) (dirops keep garbage seed
   pub not_crashed_closed : (device : V) → IsShut (shown device) s → s.device.simulated ≡ false
       → CarriedOut {E = OutOfMemory} shown s crash (place.Closed device) (Ok (answers.One reply.NotSimulated))
   not_crashed_closed device shut is = (s, shut, not_crashed is)
+
+-- ---- what a device that was called shows
+
+pub list_answers : (s : State) (before shows : Seen) (answer : Result (List Entry) DiskError) → s.device ≡ before → IfOk answer (TellsListing before.told) → IfOk answer IsListing
+    → shows.told ≡ before.told → shows.changes ≡ before.changes → FaultCounted before.faults shows.faults shows.last_fault (disk_fault answer)
+    → shows.simulated ≡ before.simulated → Answers s (Listing answer) shows
+list_answers s before shows answer is tells order same count cause simulated = rw is (record {
+  tells = tells;
+  order = order;
+  quiet = record { same = same; count = count; cause = cause; simulated = simulated };
+})
+
+pub dropped : (s : State) (before shows : Seen) (done : Bool) → s.device ≡ before → before.simulated ≡ true → done ≡ before.simulated
+    → Crashes {E = OutOfMemory} before.told (Ok done) shows.told → shows.changes ≡ before.changes → shows.faults ≡ before.faults → shows.last_fault ≡ before.last_fault
+    → shows.simulated ≡ before.simulated → Drops s shows
+dropped s before shows done is simulated answered_ crash count faults last_fault same = record {
+  simulated = rw is simulated;
+  crash = rw is (subst (λ (b : Bool). Crashes {E = OutOfMemory} before.told (Ok b) shows.told) (answered_ ∙ simulated) crash);
+  count = rw is count;
+  faults = rw is faults;
+  last_fault = rw is last_fault;
+  same = rw is same;
+}
+
+-- a crash for which memory was wanting
+pub not_crashed_told : (before after : Option Told) (e : OutOfMemory) → Crashes before (let r : Result Bool OutOfMemory = Err e in r) after → after ≡ before
+not_crashed_told None after e same = same
+not_crashed_told (Some before) None e same = same
+not_crashed_told (Some before) (Some after) e same = same
+
+pub stayed : (told told' : Option Told) (changes changes' faults faults' : ℕ) (last_fault last_fault' : Option Fault) (simulated simulated' : Bool)
+    → told' ≡ told → changes' ≡ changes → faults' ≡ faults → last_fault' ≡ last_fault → simulated' ≡ simulated
+    → seen told' changes' faults' last_fault' simulated' ≡ seen told changes faults last_fault simulated
+stayed told told' changes changes' faults faults' last_fault last_fault' simulated simulated' a b c d e = λ i. seen (a i) (b i) (c i) (d i) (e i)

@@ -30,14 +30,16 @@ Ends-from_lines (Some at) before after input taken runs rose =
 -- ---- where memory is wanting for the text of a refusal
 
 -- the stop at a line that isn't carried out
-data IsRefusal : LineStop → Type 0 where
-  AsRefused : IsRefusal Refused
-  AsTooLong : IsRefusal TooLong
+abbrev IsRefusal : LineStop → Type 0
+IsRefusal Refused = Unit {0}
+IsRefusal TooLong = Unit {0}
+IsRefusal Unwritten = ⊥
+IsRefusal NoMemory = ⊥
 
 stops_short : (stop : LineStop) (old new : Session) (held holds : Option (List ℕ)) (line : List ℕ) → IsRefusal stop → Stops stop old held line new holds → Stops NoMemory old held line new holds
 stops_short Refused old new held holds line is stops = (inl stops.1, stops.2)
 stops_short TooLong old new held holds line is stops = (inl stops.1, stops.2)
-stops_short Unwritten old new held holds line is stops = cc
+stops_short Unwritten old new held holds line is stops = absurd is
 stops_short NoMemory old new held holds line is stops = stops
 
 stops_at_short : (stop : LineStop) (old new : Session) (held holds : Option (List ℕ)) (lines : List (List ℕ)) (number : ℕ) → IsRefusal stop
@@ -75,9 +77,9 @@ pub Ends-told : (end told : End) (before after : Outside) → Ends end before af
 Ends-told Completed told before after ends same = rw same ends
 Ends-told Usage told before after ends same = rw same ends
 Ends-told (NotACommand line) told before after ends (inl same) = rw same ends
-Ends-told (NotACommand line) told before after ends (inr same) = rw same (runs_out Refused line before after AsRefused ends)
+Ends-told (NotACommand line) told before after ends (inr same) = rw same (runs_out Refused line before after tt ends)
 Ends-told (LongLine line) told before after ends (inl same) = rw same ends
-Ends-told (LongLine line) told before after ends (inr same) = rw same (runs_out TooLong line before after AsTooLong ends)
+Ends-told (LongLine line) told before after ends (inr same) = rw same (runs_out TooLong line before after tt ends)
 Ends-told LongInput told before after ends same = rw same ends
 Ends-told ReadFault told before after ends same = rw same ends
 Ends-told WriteFault told before after ends same = rw same ends

@@ -5,7 +5,12 @@ pub mod SoFar
 pub mod Tickets
 pub mod Sizes
 pub mod PutTurns
+pub mod Moving
 pub mod Carrying
+pub mod Driving
+pub mod Listings
+pub mod Ending
 pub mod Modes
 pub mod Keeping
 pub mod Recovering
+pub mod Running

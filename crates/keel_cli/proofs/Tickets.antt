@@ -10,20 +10,20 @@ use Rattle.keel_machine.specs.declared.answers.Outcome.TheVariants as outcome
 use Rattle.keel_machine.specs.declared.steps.WriteStep.{WriteStep}
 use Rattle.keel_machine.specs.declared.steps.WriteStep.TheVariants as step
 use Rattle.keel_machine.specs.Admission.{ops_of, standing_of, tickets_of_group, outcome_kept, is_on_its_way, outcome_of, queued}
-use Rattle.keel_machine.specs.States.{State, Story, Ticketed, Group, Act, MakeLog, SyncDirectory, AddRecords, SyncLog}
+use Rattle.keel_machine.specs.States.{State, Unknown, Story, Ticketed, Group, Act, MakeLog, SyncDirectory, AddRecords, SyncLog}
 use Rattle.keel_machine.specs.Writing.{ready, started_or, group_bytes}
 use Rattle.keel_machine.specs.WritingAfter.{file_drawn, own_log, log_longer, handed_over, goes_on, act_done, act_failed, first_done, first_failed, group_done, group_failed, call_done, call_failed, queue_turned, write_after}
-use Rattle.keel_core.specs.Trails.{TrailShown}
+use Rattle.keel_core.specs.Trails.{TrailShown, base_of}
 use Rattle.keel_core.specs.Views.{CoreView, StandsFor, state_of}
 use Rattle.keel_cli.specs.Places.{IsTold, AreTold}
 
 -- ---- a state that the core stands for
 
 abbrev pub story_of : TrailShown → Story
-story_of trail = record { start = trail.base; log = ops_of trail.log; limbo = ops_of trail.limbo; floor = trail.floor }
+story_of trail = record { start = base_of trail; log = ops_of trail.log; limbo = ops_of trail.limbo; floor = trail.floor }
 
 abbrev pub state_at : CoreView → State
-state_at view = state_of view (story_of view.trail) (option_to_list view.standing)
+state_at view = state_of view Unknown (story_of view.trail) (option_to_list view.standing)
 
 standing_one : (standing : Option Failure) → standing ≡ standing_of (option_to_list standing)
 standing_one None = refl
@@ -31,6 +31,7 @@ standing_one (Some failure) = refl
 
 pub stands_at : (view : CoreView) → StandsFor view (state_at view)
 stands_at view = record {
+  footing = Unknown;
   story = story_of view.trail;
   failures = option_to_list view.standing;
   state_is = refl;
@@ -348,7 +349,7 @@ KnownIn ticket view = Known ticket (state_at view)
 -- a core that stands for a fine state is fine
 pub fine_in : (ticket : ℕ) (view : CoreView) (s : State) → StandsFor view s → Fine ticket s → AreTold view.outcomes × KnownIn ticket view
 fine_in ticket view s stands fine =
-    let at : Fine ticket (state_of view stands.story stands.failures) = subst (Fine ticket) stands.state_is fine in
+    let at : Fine ticket (state_of view stands.footing stands.story stands.failures) = subst (Fine ticket) stands.state_is fine in
     (at.told, at.known)
 
 pub told_in : (view : CoreView) (s : State) → StandsFor view s → AreTold s.writing.outcomes → AreTold view.outcomes

@@ -1,5 +1,5 @@
 -- Which states of the machine the driver's store stands for.
-use Rattle.std.specs.Prelude.{◌≡◌, ℕ, Bool, false, Option, List}
+use Rattle.std.specs.Prelude.{◌≡◌, ℕ, Bool, true, false, Option, List}
 use Rattle.std.specs.List.{AllByRecursion}
 use Rattle.keel_base.specs.declared.failure.Fault.{Fault}
 use Rattle.keel_disk.specs.Told.{Told}
@@ -25,6 +25,10 @@ pub record IsShut (shows : Seen) (s : State) : Type 0 where
 abbrev pub Stands : {V : Type 0} → (V → Seen) → Place V → State → Type 0
 Stands shown (place.Closed device) s = IsShut (shown device) s
 Stands shown (place.Open core) s = StandsFor core s
+
+abbrev pub is_one_open : {V : Type 0} → Place V → Bool
+is_one_open (place.Closed device) = false
+is_one_open (place.Open core) = true
 
 -- what its device shows
 abbrev pub device_of : {V : Type 0} → (V → Seen) → Place V → Seen

@@ -1,7 +1,9 @@
 -- The lines that replies print.
 use Rattle.std.specs.Prelude.{ℕ, List, [], ◌∷◌, ◌++◌}
 use Rattle.std.specs.List.{flat_map}
+use Rattle.keel_base.specs.declared.listing.Entry.{Entry}
 use Rattle.keel_script.specs.declared.reply.Reply.{Reply}
+use Rattle.keel_script.specs.declared.reply.Reply.TheVariants as reply
 use Rattle.keel_script.specs.Replies.{reply_line}
 use Rattle.keel_cli.specs.declared.answer.Answer.{Answer}
 use Rattle.keel_cli.specs.declared.answer.Answer.TheVariants.{One, Files}
@@ -9,6 +11,13 @@ use Rattle.keel_cli.specs.Runs.{file_replies}
 
 abbrev pub full_line : Reply → List ℕ
 full_line reply = reply_line reply ++ 10 ∷ []
+
+-- the line of a file, and of how many there are
+unfoldable pub file_line : Entry → List ℕ
+file_line entry = full_line (reply.FileLine entry.name entry.size)
+
+unfoldable pub count_line : ℕ → List ℕ
+count_line count = full_line (reply.Files count)
 
 -- the lines of these replies, each with its newline
 abbrev pub text : List Reply → List ℕ

@@ -1,9 +1,9 @@
 // What a command is answered, and its text.
-ghost use Rattle.std.specs.Prelude.{◌≡◌, ◌++◌, IfOk, OnOk};
-ghost use Rattle.keel_cli.specs.Replies.{full_line, text, replies_of};
-ghost use Rattle.keel_cli.specs.Runs.{file_replies};
+ghost use Rattle.std.specs.Prelude.{◌≡◌, ◌++◌, length, IfOk, OnOk};
+ghost use Rattle.std.specs.List.{flat_map};
+ghost use Rattle.keel_cli.specs.Replies.{count_line, file_line, full_line, replies_of, text};
 
-use keel_base::{Bytes, Listing, OutOfMemory};
+use keel_base::{Bytes, Entry, Listing, OutOfMemory};
 use keel_script::{Reply, print_reply};
 use std::alloc::Global;
 
@@ -24,22 +24,33 @@ fn add_line(alloc: Global, lines: &mut Bytes, reply: &Reply) -> Result<(), OutOf
     lines.extend(b"\n")
 }
 
-// The lines of a listing.
-fn list_text(alloc: Global, listing: &Listing) -> Result<Bytes, OutOfMemory>
-    ensures { IfOk result (λ lines. lines ≡ text (file_replies listing.now)) }
+// Adds the line of a file.
+fn add_file(alloc: Global, lines: &mut Bytes, entry: &Entry) -> Result<(), OutOfMemory>
+    ensures { OnOk result (lines.new ≡ lines.old ++ file_line entry.now) }
+{
+    let reply = Reply::FileLine {
+        name: entry.name,
+        size: entry.size,
+    };
+    add_line(alloc, lines, &reply)
+}
+
+// Adds the line that says how many files there are.
+fn add_count(alloc: Global, lines: &mut Bytes, count: u64) -> Result<(), OutOfMemory>
+    ensures { OnOk result (lines.new ≡ lines.old ++ count_line count) }
+{
+    add_line(alloc, lines, &Reply::Files { count })
+}
+
+// The lines of files, and of their number.
+fn list_text(alloc: Global, entries: &[Entry]) -> Result<Bytes, OutOfMemory>
+    ensures { IfOk result (λ lines. lines ≡ flat_map file_line entries.now ++ count_line (length entries.now)) }
 {
     let mut lines = Bytes::new(alloc);
-    for entry in listing.as_slice() {
-        let reply = Reply::FileLine {
-            name: entry.name,
-            size: entry.size,
-        };
-        add_line(alloc, &mut lines, &reply)?;
+    for entry in entries {
+        add_file(alloc, &mut lines, entry)?;
     }
-    let count = Reply::Files {
-        count: listing.len() as u64,
-    };
-    add_line(alloc, &mut lines, &count)?;
+    add_count(alloc, &mut lines, entries.len() as u64)?;
     Ok(lines)
 }
 
@@ -53,6 +64,6 @@ pub fn text_of(alloc: Global, answer: &Answer) -> Result<Bytes, OutOfMemory>
             add_line(alloc, &mut lines, reply)?;
             Ok(lines)
         }
-        Answer::Files(listing) => list_text(alloc, listing),
+        Answer::Files(listing) => list_text(alloc, listing.as_slice()),
     }
 }

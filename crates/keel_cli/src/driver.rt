@@ -5,7 +5,7 @@ ghost use Rattle.keel_settings.specs.Values.{AreDefaults};
 ghost use Rattle.keel_cli.specs.declared.place.Place.TheVariants.{Closed};
 ghost use Rattle.keel_recovery.specs.Machine.{IsCovered};
 ghost use Rattle.keel_cli.specs.Driving.{DriverLeads, Drives, StandsAt};
-ghost use Rattle.keel_cli.specs.Places.{IsTidy, shown_by};
+ghost use Rattle.keel_cli.specs.Places.{IsTidy, is_one_open, shown_by};
 ghost use Rattle.keel_cli.specs.Runs.{Carries, IsOnStore};
 ghost use Rattle.keel_cli.specs.Sessions.{Session};
 
@@ -46,13 +46,22 @@ impl<V: Device> Driver<V> {
         }
     }
 
+    fn is_open(&self) -> bool
+        ensures { result ≡ is_one_open self.now.place }
+    {
+        match &self.place {
+            Place::Closed(_) => false,
+            Place::Open(_) => true,
+        }
+    }
+
     // Sets an option, where no store is open.
     fn set_option(&mut self, name: OptionName, value: u64) -> Reply
         ensures place { self.new.place ≡ self.old.place }
         ensures out { (session : Session) → StandsAt (shown_by V.told V.changes V.faults V.last_fault V.is_simulated) self.old session
             → DriverLeads (shown_by V.told V.changes V.faults V.last_fault V.is_simulated) self.new (Carries session (command.SetOption name value) (result ∷ [])) }
     {
-        if let Place::Open(_) = &self.place {
+        if self.is_open() {
             return Reply::IsOpen;
         }
         match self.settings.set(name, value) {

@@ -2,7 +2,7 @@ use Rattle.std.proofs.Common.{refl, ◌∷◌}
 use Rattle.keel_machine.specs.declared.answers.Admit.TheVariants as admit
 use Rattle.keel_machine.specs.declared.answers.Outcome.TheVariants as outcome
 use Rattle.keel_machine.specs.declared.steps.WriteStep.TheVariants as step
-use Rattle.keel_cli.proofs.PutTurns.{refused_run, refused_cut, refused_told, queued_gone, queued_known, settled_run, taken_told, never_unknown, step_gone, step_known, spent_run, want_cut, never_cancelled}
+use Rattle.keel_cli.proofs.PutTurns.{refused_run, refused_cut, refused_told, queued_gone, queued_known, settled_run, taken_told, never_unknown, step_gone, step_known, spent_run, want_cut, never_cancelled, size_named}
 use Rattle.keel_cli.proofs.putting.put_batch.Goals as goal
 
 pub returns-in-Stopped-clause-carried : goal.returns-in-Stopped-clause-carried
@@ -30,6 +30,17 @@ returns-in-OutOfMemory-clause-cut g c = refused_cut c.args.core.now c.admit.new.
 
 pub returns-in-OutOfMemory-clause-told : goal.returns-in-OutOfMemory-clause-told
 returns-in-OutOfMemory-clause-told g c = refused_told c.args.core.now c.admit.new.self c.args.batch admit.OutOfMemory c.in-OutOfMemory.ensures.turn c.requires.told
+
+pub size_reply-requires : goal.size_reply-requires
+size_reply-requires g c = size_named c.args.core.now c.admit.new.self c.args.batch c.in-BadSize.part c.in-BadSize.length c.in-BadSize.ensures.turn c.requires.one
+
+pub returns-in-BadSize-clause-carried : goal.returns-in-BadSize-clause-carried
+returns-in-BadSize-clause-carried g c =
+    refused_run c.args.core.now c.admit.new.self c.args.batch (admit.BadSize c.in-BadSize.part c.in-BadSize.length) _ c.in-BadSize.ensures.turn c.size_reply.ensures
+
+pub returns-in-BadSize-clause-told : goal.returns-in-BadSize-clause-told
+returns-in-BadSize-clause-told g c =
+    refused_told c.args.core.now c.admit.new.self c.args.batch (admit.BadSize c.in-BadSize.part c.in-BadSize.length) c.in-BadSize.ensures.turn c.requires.told
 
 pub writing-init : goal.writing-init
 writing-init g c =

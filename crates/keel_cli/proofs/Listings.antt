@@ -1,0 +1,17 @@
+-- The text of a listing.
+use Rattle.std.proofs.Common.{◌≡◌, ℕ, List, [], ◌∷◌, ◌++◌, length, map, refl, sym, ap, ◌∙◌, append_assoc, append-nil}
+use Rattle.std.specs.List.{flat_map}
+use Rattle.keel_base.specs.declared.listing.Entry.{Entry}
+use Rattle.keel_script.specs.declared.reply.Reply.TheVariants as reply
+use Rattle.keel_cli.specs.Replies.{file_line, count_line, full_line, text}
+use Rattle.keel_cli.specs.Runs.{file_replies}
+
+file_lines : (front : List Entry) (count : ℕ) → flat_map file_line front ++ count_line count
+    ≡ text (map (λ (entry : Entry). reply.FileLine entry.name entry.size) front ++ reply.Files count ∷ [])
+unfolding file_line count_line
+file_lines [] count = sym (append-nil (full_line (reply.Files count)))
+file_lines (entry ∷ front) count = append_assoc (full_line (reply.FileLine entry.name entry.size)) (flat_map file_line front) (count_line count)
+    ∙ ap (λ l. full_line (reply.FileLine entry.name entry.size) ++ l) (file_lines front count)
+
+pub listing_text : (listing : List Entry) → flat_map file_line listing ++ count_line (length listing) ≡ text (file_replies listing)
+listing_text listing = file_lines listing (length listing)

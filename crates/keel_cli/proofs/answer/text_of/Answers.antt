@@ -1,0 +1,12 @@
+use Rattle.std.proofs.Common.{◌≡◌, ◌∙◌, ℕ, List, Result, Ok, Err, IfOk, sym}
+use Rattle.keel_cli.proofs.Listings.{listing_text}
+use Rattle.keel_cli.proofs.answer.text_of.Goals as goal
+
+same_text : {E : Type 0} (r : Result (List ℕ) E) (a b : List ℕ) → a ≡ b → IfOk r (λ lines. lines ≡ a) → IfOk r (λ lines. lines ≡ b)
+same_text (Ok lines) a b same h = h ∙ same
+same_text (Err e) a b same h = tt
+
+pub returns-in-Files : goal.returns-in-Files
+returns-in-Files c =
+    rw c.in-Files.is
+    (same_text c.list_text.result _ _ (listing_text c.in-Files.listing) (rw c.as_slice.ensures at c.list_text.ensures))
