@@ -1,7 +1,7 @@
 // The calls of a device on a folder of the host, with the files that stay open.
-ghost use Rattle.std.specs.Prelude.{◌≡◌, ◌<◌, ◌≤◌, ◌++◌, ◌∷◌, false, length, IfOk, IfSome, IsSomeAnd, slice_get, string_bytes, vec_len};
-ghost use Rattle.keel_base.specs.Name.{printed};
-ghost use Rattle.keel_dirdisk.specs.Opened.{IsOpen};
+ghost use Rattle.std.specs.Prelude.{◌≡◌, ℕ, ◌<◌, ◌≤◌, ◌++◌, ◌∷◌, true, false, not, length, All, filter, OnOk, IfOk, IfSome, IsSomeAnd, slice_get, string_bytes, vec_len};
+ghost use Rattle.keel_base.specs.Name.{name_eq, printed};
+ghost use Rattle.keel_dirdisk.specs.Opened.{IsOpen, IsSynced};
 ghost use Rattle.keel_dirdisk.specs.Sorting.{AreNames};
 
 use crate::held::HeldFiles;
@@ -100,7 +100,9 @@ impl<'a, R: Files + AllocGlobal> Folder<'a, R> {
     }
 
     /// Makes a new empty file, in place of one that had the name.
-    pub fn create(&mut self, alloc: Global, name: FileName) -> Result<(), Stop> {
+    pub fn create(&mut self, alloc: Global, name: FileName) -> Result<(), Stop>
+        ensures { OnOk result ((place : ℕ) × IsOpen name self.new.held.files.items place) }
+    {
         let path = self.path_of(alloc, name)?;
         self.held.make_room()?;
         self.held.close(name);
@@ -127,6 +129,7 @@ impl<'a, R: Files + AllocGlobal> Folder<'a, R> {
     /// Adds bytes at the end of an open file. Behind a failure some first ones of them may be there.
     pub fn append(&mut self, place: usize, bytes: &[u8]) -> Result<(), Stop>
         requires { place < vec_len self.old.held.files }
+        ensures { IsSomeAnd (slice_get self.new.held.files.items place) (λ held. held.unsynced ≡ true) }
     {
         let held = &mut self.held.files[place];
         held.unsynced = true;
@@ -135,7 +138,9 @@ impl<'a, R: Files + AllocGlobal> Folder<'a, R> {
     }
 
     /// Makes the bytes of a file durable, by the descriptor that took them.
-    pub fn sync(&mut self, alloc: Global, name: FileName) -> Result<(), Stop> {
+    pub fn sync(&mut self, alloc: Global, name: FileName) -> Result<(), Stop>
+        ensures { OnOk result ((place : ℕ) × IsSynced name self.new.held.files.items place) }
+    {
         let Some(place) = self.opened(alloc, name)? else {
             return Err(Stop::Host);
         };
@@ -160,7 +165,9 @@ impl<'a, R: Files + AllocGlobal> Folder<'a, R> {
     }
 
     /// Takes a file away, where it is there.
-    pub fn remove(&mut self, alloc: Global, name: FileName) -> Result<(), Stop> {
+    pub fn remove(&mut self, alloc: Global, name: FileName) -> Result<(), Stop>
+        ensures { OnOk result (self.new.held.files.items ≡ filter (λ held. not (name_eq held.name name)) self.old.held.files.items) }
+    {
         let path = self.path_of(alloc, name)?;
         self.held.close(name);
         remove_at(self.rt, path.as_str())
@@ -180,7 +187,9 @@ impl<'a, R: Files + AllocGlobal> Folder<'a, R> {
     }
 
     /// Makes the changes of names durable, and then the cuts.
-    pub fn sync_all(&mut self) -> Result<(), Stop> {
+    pub fn sync_all(&mut self) -> Result<(), Stop>
+        ensures { OnOk result (All (λ held. held.cut ≡ false) self.new.held.files.items) }
+    {
         let own = match self.own.take() {
             Some(own) => own,
             None => fs::open(self.rt, self.path.as_str())?,

@@ -103,6 +103,7 @@ impl<F: Drop> HeldFiles<F> {
     pub fn add(&mut self, name: FileName, file: F) -> usize
         requires { vec_len self.old.files < vec_capacity self.old.files }
         ensures place { result ≡ vec_len self.old.files }
+        ensures open { IsOpen name self.new.files.items result }
         ensures files { self.new.files.items ≡ self.old.files.items ++ record { name = name; file = file; unsynced = false; cut = false } ∷ [] }
     {
         let place = self.files.len();
