@@ -23,6 +23,8 @@ mod top;
 pub use answer::{Answer, text_of};
 pub use driver::{Driven, Driver, carry_out};
 use keel_base::{ReadSource, WriteSink};
+use keel_dirdisk::DirDisk;
+use keel_disk::Device;
 use keel_simdisk::SimDisk;
 pub use lines::{LineDone, LineStop, LinesDone, StopPlace, carry_lines};
 pub use place::{Carried, Place, carry_on_store, finish};
@@ -42,21 +44,41 @@ fn words_of(rt: &HostRuntime) -> io::Result<Vec<String>> {
     Ok(words)
 }
 
+// Runs the words over a device, and gives the status.
+fn run_over<V: Device>(rt: &HostRuntime, words: &Vec<String>, device: V) -> u8 {
+    let ended = run_words(
+        rt.alloc(),
+        words,
+        ReadSource::new(rt.stdin()),
+        WriteSink::new(rt.stdout()),
+        WriteSink::new(rt.stderr()),
+        device,
+    );
+    ended.status
+}
+
+// The path of the folder that the words ask for.
+fn folder_of(words: &Vec<String>) -> Option<&String> {
+    match words.as_slice() {
+        [word, path, ..] if word.as_str() == "dir" => Some(path),
+        _ => None,
+    }
+}
+
 fn main(rt: HostRuntime) -> ExitCode {
     let alloc = rt.alloc();
     let words = match words_of(&rt) {
         Ok(words) => words,
         Err(_) => Vec::new(alloc),
     };
-    let ended = run_words(
-        alloc,
-        &words,
-        ReadSource::new(rt.stdin()),
-        WriteSink::new(rt.stdout()),
-        WriteSink::new(rt.stderr()),
-        SimDisk::new(alloc, CAPACITY),
-    );
-    ExitCode::from(ended.status)
+    let status = match folder_of(&words) {
+        Some(path) => match String::from_str(alloc, path.as_str()) {
+            Ok(path) => run_over(&rt, &words, DirDisk::new(&rt, path, CAPACITY)),
+            Err(_) => 6,
+        },
+        None => run_over(&rt, &words, SimDisk::new(alloc, CAPACITY)),
+    };
+    ExitCode::from(status)
 }
 
 #[cfg(test)]

@@ -22,6 +22,14 @@ fn words_of(alloc: Global, words: &[&str]) -> Result<Vec<String>, Fail> {
     Ok(list)
 }
 
+// The call of a kind that fails behind so many, and how much of it is done.
+#[derive(Clone, Copy)]
+struct Failing {
+    call: Call,
+    skip: u64,
+    keep: u64,
+}
+
 // What is run, and how it is to end.
 #[derive(Clone, Copy)]
 struct Row<'a> {
@@ -29,11 +37,46 @@ struct Row<'a> {
     input: &'a [u8],
     read_fails: bool,
     write_fails: bool,
-    // The kind of device calls that fail.
-    fails: Option<Call>,
+    failing: Option<Failing>,
     status: u8,
     out: &'a [u8],
     err: &'a [u8],
+}
+
+// A run to its end.
+fn run<'a>(input: &'a [u8], out: &'a [u8]) -> Row<'a> {
+    Row {
+        words: &["run"],
+        input,
+        read_fails: false,
+        write_fails: false,
+        failing: None,
+        status: 0,
+        out,
+        err: b"",
+    }
+}
+
+// A run on a device of which the first call of a kind fails.
+fn run_failing<'a>(call: Call, input: &'a [u8], out: &'a [u8]) -> Row<'a> {
+    let failing = Failing {
+        call,
+        skip: 0,
+        keep: 0,
+    };
+    Row {
+        failing: Some(failing),
+        ..run(input, out)
+    }
+}
+
+// A run that stops at a line.
+fn run_refused<'a>(input: &'a [u8], out: &'a [u8], err: &'a [u8]) -> Row<'a> {
+    Row {
+        status: 3,
+        err,
+        ..run(input, out)
+    }
 }
 
 fn run_row(
@@ -46,13 +89,13 @@ fn run_row(
     let err = MemSink::new(alloc, first_call(alloc, false)?);
     let words = words_of(alloc, row.words)?;
     let mut device = SimDisk::new(alloc, 1073741824);
-    if let Some(call) = row.fails {
+    if let Some(Failing { call, skip, keep }) = row.failing {
         let rule = Rule::Fail {
             call,
             fault: Fault::Retryable,
-            skip: 0,
+            skip,
             times: 1,
-            keep: 0,
+            keep,
         };
         device.arrange(alloc, rule).ok().ok_or("memory")?;
     }
@@ -61,116 +104,83 @@ fn run_row(
 
 #[test]
 fn runs_end_as_they_must(rt: HostRuntime) -> Result<(), Fail> {
+    let two_puts = b"open\nput a 1 sync\nput b 2 sync\nget a\n";
+    let stopped = b"opened 0\nfailed wal retryable\nstopped wal retryable\nabsent\n";
     let rows = [
-        Row {
-            words: &["run"],
-            input: b"open\nput a 1 sync\nget a\nopen\n",
-            read_fails: false,
-            write_fails: false,
-            fails: None,
-            status: 0,
-            out: b"opened 0\nok 1\nvalue 1\nis-open\n",
-            err: b"",
-        },
-        Row {
-            words: &["run"],
-            input: b"get a",
-            read_fails: false,
-            write_fails: false,
-            fails: None,
-            status: 0,
-            out: b"not-open\n",
-            err: b"",
-        },
-        Row {
-            words: &["run"],
-            input: b"",
-            read_fails: false,
-            write_fails: false,
-            fails: None,
-            status: 0,
-            out: b"",
-            err: b"",
-        },
-        Row {
-            words: &["run"],
-            input: b"open\nput a 1 sync\nput b 2 sync\nget a\n",
-            read_fails: false,
-            write_fails: false,
-            fails: Some(Call::Create),
-            status: 0,
-            out: b"opened 0\nfailed wal retryable\nstopped wal retryable\nabsent\n",
-            err: b"",
-        },
-        Row {
-            words: &["run"],
-            input: b"open\nput a 1 sync\nput b 2 sync\nget a\n",
-            read_fails: false,
-            write_fails: false,
-            fails: Some(Call::SyncDir),
-            status: 0,
-            out: b"opened 0\nfailed wal retryable\nstopped wal retryable\nabsent\n",
-            err: b"",
-        },
-        Row {
-            words: &["run"],
-            input: b"open\nput a 1 sync\nput b 2 sync\nget a\n",
-            read_fails: false,
-            write_fails: false,
-            fails: Some(Call::Append),
-            status: 0,
-            out: b"opened 0\nfailed wal retryable\nstopped wal retryable\nabsent\n",
-            err: b"",
-        },
-        Row {
-            words: &["run"],
-            input: b"open\nput a 1 sync\nput b 2 sync\nget a\n",
-            read_fails: false,
-            write_fails: false,
-            fails: Some(Call::Sync),
-            status: 0,
-            out: b"opened 0\nfailed wal retryable\nstopped wal retryable\nabsent\n",
-            err: b"",
-        },
+        run(
+            b"open\nput a 1 sync\nget a\nopen\n",
+            b"opened 0\nok 1\nvalue 1\nis-open\n",
+        ),
+        run(b"get a", b"not-open\n"),
+        run(b"", b""),
+        run_failing(Call::Create, two_puts, stopped),
+        run_failing(Call::SyncDir, two_puts, stopped),
+        run_failing(Call::Append, two_puts, stopped),
+        run_failing(Call::Sync, two_puts, stopped),
+        run_failing(
+            Call::Read,
+            b"open\nopen\n",
+            b"refused device retryable\nopened 0\n",
+        ),
+        // Crashes.
+        run(
+            b"open\nput a 1 sync\nput b 2\ncrash 0 0 0 1\nopen\nget a\nget b\n",
+            b"opened 0\nok 1\nok 2\ncrashed\nopened 1\nvalue 1\nabsent\n",
+        ),
+        run(
+            b"open\nput a 1 sync\nput b 2\ncrash 0 3 0 1\nopen\nget a\nget b\n",
+            b"opened 0\nok 1\nok 2\ncrashed\nopened 1\nvalue 1\nabsent\n",
+        ),
+        run(
+            b"open\nput a 1 sync\nput b 2\nput c 3\ncrash 0 24 24 100\nopen\nget b\nget c\n",
+            b"opened 0\nok 1\nok 2\nok 3\ncrashed\nopened 2\nvalue 2\nabsent\n",
+        ),
+        run(
+            b"open\ncrash 0 0 0 1\nopen\nput a 1\n",
+            b"opened 0\ncrashed\nopened 0\nok 1\n",
+        ),
+        // The language.
+        run(
+            b"open\ndrain 100\nput %4a 1\nget J\ndel J\nget J\ndrain 0\n",
+            b"opened 0\nquiet\nok 1\nvalue 1\nok 2\nabsent\nmore\n",
+        ),
+        run(
+            b"tick 18446744073709551615\ntick 1\n",
+            b"now 18446744073709551615\nnow 18446744073709551615\n",
+        ),
+        run(
+            b"option limit 1152921504606846977\noption limit 5\nopen\noption limit 5\nflush\n",
+            b"bad-option limit 0 1152921504606846976\noption limit 5\nopened 0\nis-open\nnot-built\n",
+        ),
+        run(
+            b"open\nput a 1 sync\nfiles\nput % 1\nput b 2\ncrash 9 99 0 1\nfiles\nopen\nput c 3\nfiles\n",
+            b"opened 0\nok 1\nfile 000001.log 24\nfiles 1\nbad-size key 0\nok 2\ncrashed\nfile 000001.log 48\nfiles 1\nopened 2\nok 3\nfile 000001.log 48\nfile 000002.log 24\nfiles 2\n",
+        ),
+        run(b"# a comment\n   \n\n  open  \n", b"opened 0\n"),
+        run_refused(
+            b"open\nput a\n",
+            b"opened 0\n",
+            b"line 2: not a command\n",
+        ),
+        run_refused(b"tick +1\n", b"", b"line 1: not a command\n"),
+        run_refused(b"\ntick 01\n", b"", b"line 2: not a command\n"),
         Row {
             words: &[],
-            input: b"open",
-            read_fails: false,
-            write_fails: false,
-            fails: None,
             status: 2,
-            out: b"",
             err: b"usage: keel run, dir PATH, gen SEED COUNT, check, threads CLIENTS OPS SEED\n",
+            ..run(b"open", b"")
         },
         Row {
-            words: &["run"],
-            input: b"open\nput a\n",
-            read_fails: false,
-            write_fails: false,
-            fails: None,
-            status: 3,
-            out: b"opened 0\n",
-            err: b"line 2: not a command\n",
-        },
-        Row {
-            words: &["run"],
-            input: b"open",
             read_fails: true,
-            write_fails: false,
-            fails: None,
             status: 4,
-            out: b"",
             err: b"read fault\n",
+            ..run(b"open", b"")
         },
         Row {
-            words: &["run"],
-            input: b"open",
-            read_fails: false,
             write_fails: true,
-            fails: None,
             status: 5,
-            out: b"",
             err: b"write fault\n",
+            ..run(b"open", b"")
         },
     ];
     for row in &rows {
@@ -178,6 +188,70 @@ fn runs_end_as_they_must(rt: HostRuntime) -> Result<(), Fail> {
         assert_eq!(rt; ended.status, row.status);
         assert_eq!(rt; ended.out.held(), row.out);
         assert_eq!(rt; ended.err.held(), row.err);
+    }
+    Ok(())
+}
+
+// Five puts of which the first and the third are synced, a crash, and an opening.
+const BEHIND_A_CRASH: [&[u8]; 4] = [
+    b"open\nput a 1 sync\nput b 2\nput c 3 sync\nput d 4\nput e 5\ncrash 0 0 0 1\nopen\n",
+    b"open\nput a 1 sync\nput b 2\nput c 3 sync\nput d 4\nput e 5\ncrash 0 99 0 1\nopen\n",
+    b"open\nput a 1 sync\nput b 2\nput c 3 sync\nput d 4\nput e 5\ncrash 99 0 0 1\nopen\n",
+    b"open\nput a 1 sync\nput b 2\nput c 3 sync\nput d 4\nput e 5\ncrash 99 99 0 1\nopen\n",
+];
+
+// What the first put that fails is, counted from 1, for each failing call of those puts.
+const FAILING_CALLS: [(Call, u64, usize); 9] = [
+    (Call::Create, 0, 1),
+    (Call::SyncDir, 0, 1),
+    (Call::Append, 0, 1),
+    (Call::Append, 1, 2),
+    (Call::Append, 2, 3),
+    (Call::Append, 3, 4),
+    (Call::Append, 4, 5),
+    (Call::Sync, 0, 1),
+    (Call::Sync, 1, 3),
+];
+
+// The line before the last newline.
+fn last_line(text: &[u8]) -> &[u8] {
+    text.strip_suffix(b"\n".as_slice())
+        .unwrap_or(text)
+        .rsplit(|byte| *byte == b'\n')
+        .next()
+        .unwrap_or(b"")
+}
+
+// The opening behind the crash finds all puts before the one that failed that had to be firm, and at most that one more.
+#[test]
+fn an_opening_finds_a_prefix(rt: HostRuntime) -> Result<(), Fail> {
+    let found: [&[u8]; 6] = [
+        b"opened 0",
+        b"opened 1",
+        b"opened 2",
+        b"opened 3",
+        b"opened 4",
+        b"opened 5",
+    ];
+    for (call, skip, failed) in FAILING_CALLS {
+        for keep in [0, 999] {
+            for input in BEHIND_A_CRASH {
+                let failing = Failing { call, skip, keep };
+                let row = Row {
+                    failing: Some(failing),
+                    ..run(input, b"")
+                };
+                let ended = run_row(rt.alloc(), &row)?;
+                let line = last_line(ended.out.held());
+                let least = match failed {
+                    1 => 0,
+                    2 | 3 => 1,
+                    _ => 3,
+                };
+                let fits = (least..=failed).any(|seq| found.get(seq) == Some(&line));
+                assert_eq!(rt; fits, true);
+            }
+        }
     }
     Ok(())
 }

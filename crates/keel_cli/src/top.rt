@@ -48,6 +48,7 @@ fn ask_for_run(words: &Vec<String>) -> bool
 {
     match words.as_slice() {
         [word] => word.as_str() == "run",
+        [word, _] => word.as_str() == "dir",
         _ => false,
     }
 }
