@@ -157,11 +157,7 @@ fn runs_end_as_they_must(rt: HostRuntime) -> Result<(), Fail> {
             b"opened 0\nok 1\nfile 000001.log 24\nfiles 1\nbad-size key 0\nok 2\ncrashed\nfile 000001.log 48\nfiles 1\nopened 2\nok 3\nfile 000001.log 48\nfile 000002.log 24\nfiles 2\n",
         ),
         run(b"# a comment\n   \n\n  open  \n", b"opened 0\n"),
-        run_refused(
-            b"open\nput a\n",
-            b"opened 0\n",
-            b"line 2: not a command\n",
-        ),
+        run_refused(b"open\nput a\n", b"opened 0\n", b"line 2: not a command\n"),
         run_refused(b"tick +1\n", b"", b"line 1: not a command\n"),
         run_refused(b"\ntick 01\n", b"", b"line 2: not a command\n"),
         Row {
