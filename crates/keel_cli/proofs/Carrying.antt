@@ -13,7 +13,7 @@ use Rattle.keel_machine.specs.declared.answers.Got.{Got}
 use Rattle.keel_machine.specs.declared.answers.Got.TheVariants as got
 use Rattle.keel_machine.specs.Opening.{continues}
 use Rattle.keel_machine.specs.Outside.{seen}
-use Rattle.keel_machine.specs.States.{State, Seen, Footing, Known, Unknown, Mode, Unopened, Closed, Open as Opened, with_device}
+use Rattle.keel_machine.specs.States.{State, Seen, Mode, Unopened, Closed, Open as Opened, with_device}
 use Rattle.keel_machine.specs.Turns.{Turn, Answers, after, Opening, Getting, Listing, Crashing}
 use Rattle.keel_machine.specs.Crash.{crash_after, mode_crashed}
 use Rattle.keel_reading.specs.declared.refusal.OpenRefusal.{OpenRefusal}
@@ -24,7 +24,7 @@ use Rattle.keel_recovery.specs.Machine.{is_open, IsCovered, Drops, ReadsOnIn}
 use Rattle.keel_recovery.proofs.Crashing.{crash_turns}
 use Rattle.keel_recovery.proofs.GoingOn.{covered_reads}
 use Rattle.keel_script.specs.declared.command.Command.{Command}
-use Rattle.keel_script.specs.declared.command.Command.TheVariants.{Open, Put, Del, Drain, Get, Files, Crash}
+use Rattle.keel_script.specs.declared.command.Command.TheVariants.{Open, Get, Files, Crash}
 use Rattle.keel_script.specs.declared.reply.Reply.{Reply}
 use Rattle.keel_script.specs.declared.reply.Reply.TheVariants as reply
 use Rattle.keel_cli.specs.declared.answer.Answer.{Answer}
@@ -32,7 +32,7 @@ use Rattle.keel_cli.specs.declared.answer.Answer.TheVariants as answers
 use Rattle.keel_cli.specs.declared.place.Place.{Place}
 use Rattle.keel_cli.specs.declared.place.Place.TheVariants as place
 use Rattle.keel_cli.specs.Cuts.{StoreCutShort, CarriedOut}
-use Rattle.keel_cli.specs.Places.{IsShut, device_of, Stands, Leads, Leaves, CoreLeads, AreTold, IsTidy}
+use Rattle.keel_cli.specs.Places.{IsShut, device_of, Stands, Leads, Leaves, CoreLeads, AreTold}
 use Rattle.keel_cli.specs.Replies.{replies_of}
 use Rattle.keel_cli.specs.Runs.{opening_replies, listing_replies, reading_replies, rest_reply, CrashRun, Calls, RestsOrCalls, CarriesOnStore, CallsPartly}
 use Rattle.keel_cli.proofs.Tickets.{state_at, stands_at, told_in}

@@ -1,10 +1,10 @@
 -- Commands on the driver's own values, and on its store.
-use Rattle.std.specs.Prelude.{min, IsOk, OnOk, OnErr, ◌↔◌}
-use Rattle.std.proofs.Common.{◌≡◌, ◌⊎◌, ℕ, ◌+◌, Bool, true, false, List, [], ◌∷◌, Result, Ok, Err, refl, sym, ap, subst, ◌∙◌, inl, inr}
+use Rattle.std.specs.Prelude.{min}
+use Rattle.std.proofs.Common.{◌≡◌, ℕ, ◌+◌, true, false, List, [], ◌∷◌, Result, Ok, Err, refl, sym, ap, subst, ◌∙◌, inl, inr}
 use Rattle.keel_base.specs.declared.memory.OutOfMemory.{OutOfMemory}
 use Rattle.keel_base.specs.declared.options.Options.{Options}
 use Rattle.keel_machine.specs.States.{State, Seen}
-use Rattle.keel_recovery.specs.Machine.{is_open, IsCovered}
+use Rattle.keel_recovery.specs.Machine.{is_open}
 use Rattle.keel_script.specs.declared.command.Command.{Command}
 use Rattle.keel_script.specs.declared.command.Command.TheVariants.{SetOption, Tick}
 use Rattle.keel_script.specs.declared.option_name.OptionName.{OptionName}
@@ -19,9 +19,9 @@ use Rattle.keel_cli.specs.declared.place.Place.{Place}
 use Rattle.keel_cli.specs.declared.place.Place.TheVariants as place
 use Rattle.keel_cli.specs.Cuts.{CarriedOut}
 use Rattle.keel_cli.specs.Driving.{StandsAt, DriverLeads, Drives}
-use Rattle.keel_cli.specs.Places.{Stands, is_one_open, device_of}
+use Rattle.keel_cli.specs.Places.{Stands, is_one_open}
 use Rattle.keel_cli.specs.Replies.{replies_of}
-use Rattle.keel_cli.specs.Runs.{last_tick, SetRun, StoreRun, IsOnStore, CarriesOnStore, Carries}
+use Rattle.keel_cli.specs.Runs.{last_tick, SetRun, StoreRun, IsOnStore, Carries}
 use Rattle.keel_cli.specs.Sessions.{Session, with_store}
 use Rattle.keel_cli.proofs.Carrying.{open_mode}
 

@@ -1,5 +1,5 @@
 -- How a command's answer and its text end a line.
-use Rattle.std.proofs.Common.{◌≡◌, ◌≤◌, length, ℕ, Option, Some, None, List, Result, Ok, Err, refl, sym, ap, subst, inl, inr}
+use Rattle.std.proofs.Common.{◌≡◌, ◌≤◌, length, ℕ, Option, Some, None, List, refl, sym, subst, inr}
 use Rattle.std.specs.Io.KnownBytes.{Appends}
 use Rattle.keel_base.specs.Streams.{AppendsPart}
 use Rattle.keel_machine.specs.States.{Seen}
@@ -9,7 +9,7 @@ use Rattle.keel_cli.specs.declared.driver.Driver.{Driver}
 use Rattle.keel_cli.specs.declared.lines.LineStop.TheVariants.{Unwritten, NoMemory}
 use Rattle.keel_cli.specs.Driving.{StandsAt, DriverLeads, DriverLeaves, LineLeads}
 use Rattle.keel_cli.specs.Ends.{CommandEnds, LineEnds}
-use Rattle.keel_cli.specs.Grammar.{longest_line}
+use Rattle.keel_lines.specs.Lines.{longest_line}
 use Rattle.keel_script.specs.Grammar as script
 use Rattle.keel_cli.specs.declared.lines.LineStop.{LineStop}
 use Rattle.keel_cli.proofs.GoingOn.{LineEnds-from_command}

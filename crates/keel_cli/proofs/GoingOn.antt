@@ -7,9 +7,10 @@ use Rattle.keel_script.specs.declared.reply.Reply.{Reply}
 use Rattle.keel_script.specs.Grammar as script
 use Rattle.keel_script.specs.Words.{IsBlank}
 use Rattle.keel_cli.specs.declared.lines.LineStop.{LineStop}
-use Rattle.keel_cli.specs.declared.lines.LineStop.TheVariants.{Refused, TooLong, Unwritten, NoMemory}
+use Rattle.keel_cli.specs.declared.lines.LineStop.TheVariants.{Refused, Unwritten, NoMemory}
 use Rattle.keel_cli.specs.Ends.{CommandEnds, LineEnds, Progress}
-use Rattle.keel_cli.specs.Grammar.{longest_line, AreCommands}
+use Rattle.keel_lines.specs.Lines.{longest_line}
+use Rattle.keel_cli.specs.Grammar.{AreCommands}
 use Rattle.keel_cli.specs.Replies.{text, full_line}
 use Rattle.keel_cli.specs.Runs.{Run}
 use Rattle.keel_cli.specs.Sessions.{Session}
@@ -65,7 +66,6 @@ LineEnds-from_command None old new held holds line command short says ends = rec
 LineEnds-from_command (Some Unwritten) old new held holds line command short says ends = (command, record { short = short; says = says }, ends)
 LineEnds-from_command (Some NoMemory) old new held holds line command short says ends = (inr (command, record { short = short; says = says }, ends.0), ends.1)
 LineEnds-from_command (Some Refused) old new held holds line command short says ends = absurd ends
-LineEnds-from_command (Some TooLong) old new held holds line command short says ends = absurd ends
 
 pub Appends-none : (held : Option (List ℕ)) → Appends held held []
 Appends-none None = tt

@@ -1,5 +1,5 @@
 -- What every turn of the machine keeps, a run keeps.
-use Rattle.std.proofs.Common.{◌≡◌, ◌∙◌, ◌⊎◌, ℕ, zero, suc, Bool, true, false, Option, None, Some, List, [], ◌∷◌, ◌++◌, Result, Ok, Err, refl, ap, sym, subst, inl, inr}
+use Rattle.std.proofs.Common.{◌≡◌, ◌∙◌, ℕ, zero, suc, Bool, true, false, Option, None, Some, List, [], ◌∷◌, Err, refl, ap, sym, subst, inl, inr}
 use Rattle.keel_base.specs.declared.op.Batch.{Batch}
 use Rattle.keel_disk.specs.declared.error.DiskError.TheVariants as disk
 use Rattle.keel_machine.specs.declared.answers.Admit.{Admit}
@@ -18,11 +18,11 @@ use Rattle.keel_script.specs.declared.command.Command.TheVariants.{SetOption, Op
 use Rattle.keel_script.specs.declared.option_name.OptionName.{OptionName}
 use Rattle.keel_script.specs.declared.reply.Reply.{Reply}
 use Rattle.keel_cli.specs.declared.lines.LineStop.{LineStop}
-use Rattle.keel_cli.specs.declared.lines.LineStop.TheVariants.{Refused, TooLong, Unwritten, NoMemory}
+use Rattle.keel_cli.specs.declared.lines.LineStop.TheVariants.{Refused, Unwritten, NoMemory}
 use Rattle.keel_cli.specs.declared.lines.StopPlace.{StopPlace}
 use Rattle.keel_cli.specs.Cuts.{StoreCutShort, CutShort}
 use Rattle.keel_cli.specs.Drains.{Moves, DrainRun, DrainCut}
-use Rattle.keel_cli.specs.Ends.{Progress, Stops, StopsAt, LinesEnd, LineEnds}
+use Rattle.keel_cli.specs.Ends.{Progress, Stops, LinesEnd}
 use Rattle.keel_cli.specs.Puts.{put_batch, del_batch, PutRun, PutCut, Queues, Waits}
 use Rattle.keel_cli.specs.Runs.{rest_reply, CrashRun, Calls, RestsOrCalls, CarriesOnStore, SetRun, Carries, CallsPartly, Run}
 use Rattle.keel_cli.specs.Sessions.{Session}
@@ -166,7 +166,6 @@ module _ (C : State → Type 0) (keep : (old new : State) (event : Event) → Ma
 
   stopped : (stop : LineStop) (old new : Session) (held holds : Option (List ℕ)) (line : List ℕ) → Stops stop old held line new holds → C old.store → C new.store
   stopped Refused old new held holds line stops kept = same_store old new (ap (λ (s : Session). s.store) stops.1) kept
-  stopped TooLong old new held holds line stops kept = same_store old new (ap (λ (s : Session). s.store) stops.1) kept
   stopped Unwritten old new held holds line stops kept = carried old new stops.0 stops.2.replies stops.2.carries kept
   stopped NoMemory old new held holds line (inl same, quiet) kept = same_store old new (ap (λ (s : Session). s.store) same) kept
   stopped NoMemory old new held holds line (inr stops, quiet) kept = cut old new stops.0 stops.2 kept

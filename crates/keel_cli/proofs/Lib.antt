@@ -1,7 +1,5 @@
 pub mod Endings
-pub mod FirstLine
 pub mod GoingOn
-pub mod SoFar
 pub mod Tickets
 pub mod Sizes
 pub mod PutTurns
@@ -14,3 +12,4 @@ pub mod Modes
 pub mod Keeping
 pub mod Recovering
 pub mod Running
+pub mod Streaming

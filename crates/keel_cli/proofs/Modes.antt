@@ -1,5 +1,5 @@
 -- A store that is open stays so.
-use Rattle.std.proofs.Common.{◌≡◌, ◌∙◌, ℕ, Bool, true, false, Option, None, Some, List, [], ◌∷◌, Result, Ok, Err, refl, ap, sym}
+use Rattle.std.proofs.Common.{◌≡◌, ◌∙◌, Bool, Option, None, Some, List, [], ◌∷◌, refl}
 use Rattle.keel_base.specs.declared.failure.Failure.{Failure}
 use Rattle.keel_base.specs.declared.op.Batch.{Batch}
 use Rattle.keel_machine.specs.declared.answers.Admit.{Admit}
@@ -7,9 +7,9 @@ use Rattle.keel_machine.specs.declared.answers.Admit.TheVariants as admit
 use Rattle.keel_machine.specs.declared.steps.WriteStep.{WriteStep}
 use Rattle.keel_machine.specs.declared.steps.WriteStep.TheVariants as step
 use Rattle.keel_machine.specs.Admission.{admit_after}
-use Rattle.keel_machine.specs.States.{State, Mode, Act, MakeLog, SyncDirectory, AddRecords, SyncLog, Group, Ticketed}
+use Rattle.keel_machine.specs.States.{State, Act, MakeLog, SyncDirectory, AddRecords, SyncLog, Group, Ticketed}
 use Rattle.keel_machine.specs.Writing.{started, started_or, ready}
-use Rattle.keel_machine.specs.WritingAfter.{goes_on, act_done, act_failed, act_tried, file_drawn, first_done, first_failed, group_done, group_failed, call_done, call_failed, write_after, queue_turned}
+use Rattle.keel_machine.specs.WritingAfter.{goes_on, act_done, act_failed, first_done, first_failed, group_done, group_failed, write_after}
 
 mode_started : (waiting : List Ticketed) (s : State) → (started waiting s).mode ≡ s.mode
 mode_started [] s = refl

@@ -1,6 +1,5 @@
 -- What the device of a run's last state stands for.
-use Rattle.std.specs.Prelude.{◌-◌, ◌^◌, ◌<◌}
-use Rattle.std.proofs.Common.{◌≡◌, ℕ, Option, List, refl, sym, ap, subst, inl, inr, ⊎_elim, arith}
+use Rattle.std.proofs.Common.{◌≡◌, ℕ, Option, List, refl, sym, subst, inl, ⊎_elim, arith}
 use Rattle.keel_disk.specs.Told.{Told}
 use Rattle.keel_machine.specs.States.{State, Seen, Footing, Known, Unknown}
 use Rattle.keel_recovery.specs.Machine.{RestsIn, IsCovered, IsCounted, forged_of}

@@ -1,77 +1,73 @@
 -- How far a run over lines has come, on each footing.
-use Rattle.std.proofs.Common.{◌≡◌, ℕ, ◌+◌, ◌<◌, ◌≤◌, Option, Some, None, List, length, take, drop, refl, sym, ap, subst, ◌∙◌}
+use Rattle.std.proofs.Common.{◌≡◌, ℕ, ◌+◌, Option, Some, None, List, [], ◌∷◌, ◌++◌, length, refl}
 use Rattle.keel_machine.specs.States.{Seen, Footing}
 use Rattle.keel_recovery.specs.Machine.{IsCovered}
 use Rattle.keel_recovery.proofs.Machine.{turn_keeps}
 use Rattle.keel_cli.specs.declared.lines.LineStop.{LineStop}
-use Rattle.keel_cli.specs.declared.lines.StopPlace.{StopPlace}
-use Rattle.keel_cli.specs.Ends.{LineEnds, LinesEnd, LinesRun}
-use Rattle.keel_cli.specs.Grammar.{lines_of, length_before}
+use Rattle.keel_cli.specs.Ends.{Progress, LineEnds, LinesRun, StopsAt, stop_at}
 use Rattle.keel_cli.specs.Sessions.{Session, Begins, MayBegin}
+use Rattle.keel_cli.proofs.GoingOn.{Appends-none, Progress-append}
 use Rattle.keel_cli.proofs.Keeping.{progressed}
 use Rattle.keel_cli.proofs.Recovering.{first_covered, recovers}
-use Rattle.keel_cli.proofs.SoFar.{SoFar, SoFar-begins, SoFar-ends, SoFar-stops, SoFar-goes_on, line_at, rest_after}
 
--- from a beginning on this footing, the lines up to here were carried out
-pub record RunsSoFar (footing : Footing) (handed_in : Seen) (held : Option (List ℕ)) (input rest : List ℕ) (number : ℕ) (holds : Option (List ℕ)) (now : Session) : Type 0 where
+-- from a beginning on this footing, these lines were carried out
+pub record RunsSoFar (footing : Footing) (handed_in : Seen) (held : Option (List ℕ)) (lines : List (List ℕ)) (holds : Option (List ℕ)) (now : Session) : Type 0 where
   pub first : Session
   pub begins : Begins footing handed_in first
-  pub so_far : SoFar first held input rest number now holds
+  pub progress : Progress first held lines now holds
   pub covered : IsCovered now.store
 
-module _ (footing : Footing) (handed_in : Seen) (held : Option (List ℕ)) (input : List ℕ) where
-  pub run_begins : (first : Session) → Begins footing handed_in first → MayBegin footing handed_in.told → RunsSoFar footing handed_in held input input 0 held first
+module _ (footing : Footing) (handed_in : Seen) (held : Option (List ℕ)) where
+  pub run_begins : (first : Session) → Begins footing handed_in first → MayBegin footing handed_in.told → RunsSoFar footing handed_in held [] held first
   run_begins first begins may = record {
     first = first;
     begins = begins;
-    so_far = SoFar-begins first held input;
+    progress = record { commands = []; replies = []; read = refl; run = (refl, refl); written = Appends-none held };
     covered = first_covered footing handed_in first begins may;
   }
 
-  module _ (rest : List ℕ) (number : ℕ) (between holds : Option (List ℕ)) (now new : Session) where
-    pub run_goes_on : RunsSoFar footing handed_in held input rest number between now → 0 < length rest → LineEnds None now between (line_at rest) new holds
-        → RunsSoFar footing handed_in held input (rest_after rest) (number + 1) holds new
-    run_goes_on runs some ends = record {
-      first = runs.first;
-      begins = runs.begins;
-      so_far = SoFar-goes_on runs.first now new held between holds input rest number runs.so_far some ends;
-      covered = progressed IsCovered turn_keeps now new between holds _ ends runs.covered;
-    }
+  pub run_goes_on : (lines : List (List ℕ)) (line : List ℕ) (between holds : Option (List ℕ)) (now new : Session) → RunsSoFar footing handed_in held lines between now
+      → LineEnds None now between line new holds → RunsSoFar footing handed_in held (lines ++ line ∷ []) holds new
+  run_goes_on lines line between holds now new runs ends = record {
+    first = runs.first;
+    begins = runs.begins;
+    progress = Progress-append runs.first now new held between holds lines (line ∷ []) runs.progress ends;
+    covered = progressed IsCovered turn_keeps now new between holds (line ∷ []) ends runs.covered;
+  }
 
-  -- the same, with the line's end and what stands behind it by their names
-  pub run_goes_on_at : (rest later : List ℕ) (end number : ℕ) (between holds : Option (List ℕ)) (now new : Session) → end ≡ length_before 10 rest → later ≡ drop (end + 1) rest
-      → RunsSoFar footing handed_in held input rest number between now → 0 < length rest → LineEnds None now between (take end rest) new holds
-      → RunsSoFar footing handed_in held input later (number + 1) holds new
-  run_goes_on_at rest later end number between holds now new end_is later_is runs some ends =
-      let whole : LineEnds None now between (line_at rest) new holds = subst (λ n. LineEnds None now between (take n rest) new holds) end_is ends in
-      let is : later ≡ rest_after rest = later_is ∙ ap (λ n. drop (n + 1) rest) end_is in
-      subst (λ (l : List ℕ). RunsSoFar footing handed_in held input l (number + 1) holds new) (sym is) (run_goes_on rest number between holds now new runs some whole)
-
-  -- the run ends on this device
-  module _ (rest : List ℕ) (number : ℕ) (between holds : Option (List ℕ)) (now new : Session) (handed_back : Seen) (may : MayBegin footing handed_in.told) (device : handed_back ≡ new.store.device) where
-    pub run_stops : (stop : LineStop) → RunsSoFar footing handed_in held input rest number between now → 0 < length rest → LineEnds (Some stop) now between (line_at rest) new holds
-        → LinesRun (Some (record { stop = stop; line = number + 1 })) footing handed_in held (lines_of input) handed_back holds
-    run_stops stop runs some ends =
-        let at : Option StopPlace = Some (record { stop = stop; line = number + 1 }) in
-        let stops = SoFar-stops stop runs.first now new held between holds input rest number runs.so_far some ends in
+  -- the run ends on this device, behind the lines or at a stop at one more
+  module _ (handed_back : Seen) (may : MayBegin footing handed_in.told) where
+    pub run_stops : (lines : List (List ℕ)) (line : List ℕ) (number : ℕ) (between holds : Option (List ℕ)) (now new : Session) → handed_back ≡ new.store.device → number ≡ length lines + 1
+        → (stop : LineStop) → RunsSoFar footing handed_in held lines between now → LineEnds (Some stop) now between line new holds
+        → LinesRun (stop_at stop number) footing handed_in held (lines ++ line ∷ []) handed_back holds
+    run_stops lines line number between holds now new device number_is stop runs ends =
+        let stops : StopsAt stop runs.first held (lines ++ line ∷ []) number new holds = record {
+          before = lines;
+          line = line;
+          behind = [];
+          lines_are = refl;
+          number_is = number_is;
+          mid = now;
+          holds_mid = between;
+          progress = runs.progress;
+          stops = ends;
+        } in
         record {
           first = runs.first;
           begins = runs.begins;
           last = new;
           ends = stops;
           device = device;
-          recovers = recovers at footing handed_in runs.first new held holds (lines_of input) may runs.begins stops;
+          recovers = recovers (stop_at stop number) footing handed_in runs.first new held holds (lines ++ line ∷ []) may runs.begins stops;
         }
 
-  pub run_ends : (rest : List ℕ) (number : ℕ) (holds : Option (List ℕ)) (now : Session) (handed_back : Seen) → MayBegin footing handed_in.told → handed_back ≡ now.store.device
-      → RunsSoFar footing handed_in held input rest number holds now → length rest ≤ 0 → LinesRun None footing handed_in held (lines_of input) handed_back holds
-  run_ends rest number holds now handed_back may device runs none =
-      let ends = SoFar-ends runs.first now held holds input rest number runs.so_far none in
-      record {
-        first = runs.first;
-        begins = runs.begins;
-        last = now;
-        ends = ends;
-        device = device;
-        recovers = recovers None footing handed_in runs.first now held holds (lines_of input) may runs.begins ends;
-      }
+    pub run_ends : (lines : List (List ℕ)) (holds : Option (List ℕ)) (now : Session) → handed_back ≡ now.store.device
+        → RunsSoFar footing handed_in held lines holds now → LinesRun None footing handed_in held lines handed_back holds
+    run_ends lines holds now device runs = record {
+      first = runs.first;
+      begins = runs.begins;
+      last = now;
+      ends = runs.progress;
+      device = device;
+      recovers = recovers None footing handed_in runs.first now held holds lines may runs.begins runs.progress;
+    }

@@ -1,6 +1,6 @@
 -- Of a batch of one op, no count and no weight is refused.
 use Rattle.std.specs.Prelude.{nat_le, nat_lt, not, ◌&&◌}
-use Rattle.std.proofs.Common.{◌≡◌, ◌⊎◌, ℕ, ◌+◌, ◌≤◌, ◌<◌, Bool, true, false, List, [], ◌∷◌, length, Option, Some, None, option_map, refl, sym, ap, subst, ◌∙◌, inl, inr, arith, ltb-false}
+use Rattle.std.proofs.Common.{◌≡◌, ◌⊎◌, ℕ, ◌+◌, ◌≤◌, Bool, true, false, List, [], ◌∷◌, length, Option, Some, None, option_map, refl, sym, subst, ◌∙◌, inl, inr, arith, ltb-false}
 use Rattle.std.proofs.lemmas.Bool.{leb-true}
 use Rattle.keel_base.specs.declared.failure.Failure.{Failure}
 use Rattle.keel_base.specs.declared.failure.Counter.TheVariants.{Sequence, Ticket}
@@ -10,7 +10,7 @@ use Rattle.keel_base.specs.declared.op.Op.TheVariants.{Put, Del}
 use Rattle.keel_machine.specs.declared.answers.Admit.{Admit}
 use Rattle.keel_machine.specs.declared.answers.Admit.TheVariants as admit
 use Rattle.keel_machine.specs.declared.answers.Part.TheVariants as part
-use Rattle.keel_machine.specs.Admission.{is_key_length, op_refusal, weight_of, size_refusal, refusal, standing, seq_with, most_waiting}
+use Rattle.keel_machine.specs.Admission.{is_key_length, weight_of, size_refusal, refusal, standing}
 use Rattle.keel_machine.specs.States.{State}
 use Rattle.keel_machine.specs.Tests.{first_some, when}
 

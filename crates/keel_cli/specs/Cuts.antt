@@ -1,5 +1,5 @@
 -- Where memory ended at a command, and what a command that was carried out leaves.
-use Rattle.std.specs.Prelude.{◌≡◌, ◌⊎◌, Bool, List, Result, Ok, Err}
+use Rattle.std.specs.Prelude.{◌≡◌, ◌⊎◌, List, Result, Ok, Err}
 use Rattle.keel_machine.specs.States.{State, Seen}
 use Rattle.keel_script.specs.declared.command.Command.{Command}
 use Rattle.keel_script.specs.declared.reply.Reply.{Reply}

@@ -1,7 +1,7 @@
 -- How a drain is carried out: steps of the one actor that there is, the writer.
 use Rattle.std.specs.Prelude.{◌≡◌, ◌⊎◌, ℕ, zero, suc, ◌<◌, List, [], ◌∷◌, None}
 use Rattle.keel_machine.specs.declared.steps.WriteStep.{WriteStep}
-use Rattle.keel_machine.specs.declared.steps.WriteStep.TheVariants.{Idle, Moved, Done, Failed, Turned, Spent, Cancelled, OutOfMemory}
+use Rattle.keel_machine.specs.declared.steps.WriteStep.TheVariants.{Idle, Spent, OutOfMemory}
 use Rattle.keel_machine.specs.States.{State}
 use Rattle.keel_machine.specs.Turns.{Turn, Writing}
 use Rattle.keel_script.specs.declared.reply.Reply.{Reply}

@@ -1,19 +1,22 @@
 -- How a run over a workload may end, and what it then has done.
-use Rattle.std.specs.Prelude.{◌≡◌, ◌<◌, ℕ, ◌+◌, ◌⊎◌, Option, None, Some, List, [], ◌∷◌, ◌++◌, length, codes}
+use Rattle.std.specs.Prelude.{◌≡◌, ◌<◌, ℕ, ◌+◌, ◌⊎◌, Option, None, Some, List, [], ◌∷◌, ◌++◌, length, take, codes, ◌≤◌}
 use Rattle.std.specs.Fmt.{decimal}
-use Rattle.std.specs.Io.KnownBytes.{Appends}
+use Rattle.std.specs.Io.KnownBytes.{Appends, IsAtEnd}
 use Rattle.keel_base.specs.Counts.{Rose}
-use Rattle.keel_base.specs.Streams.{TakesAll, TakesMore, AppendsPart}
+use Rattle.keel_base.specs.Streams.{AppendsPart}
 use Rattle.keel_machine.specs.States.{Seen, Footing}
+use Rattle.keel_lines.specs.declared.line.LineEnd.{LineEnd}
+use Rattle.keel_lines.specs.declared.line.LineEnd.TheVariants as line_end
+use Rattle.keel_lines.specs.Lines.{longest_line, longest_input, lines_of, whole_lines}
 use Rattle.keel_script.specs.declared.command.Command.{Command}
 use Rattle.keel_script.specs.declared.reply.Reply.{Reply}
 use Rattle.keel_cli.specs.declared.top.End.{End}
 use Rattle.keel_cli.specs.declared.top.End.TheVariants.{Completed, Usage, NotACommand, LongLine, LongInput, ReadFault, WriteFault, OutOfMemory}
 use Rattle.keel_cli.specs.declared.lines.StopPlace.{StopPlace}
 use Rattle.keel_cli.specs.declared.lines.LineStop.{LineStop}
-use Rattle.keel_cli.specs.declared.lines.LineStop.TheVariants.{Refused, TooLong, Unwritten, NoMemory}
+use Rattle.keel_cli.specs.declared.lines.LineStop.TheVariants.{Refused, Unwritten, NoMemory}
 use Rattle.keel_cli.specs.Cuts.{CutShort}
-use Rattle.keel_cli.specs.Grammar.{longest_line, Says, AreCommands, IsNoCommand, lines_of}
+use Rattle.keel_cli.specs.Grammar.{Says, AreCommands, IsNoCommand}
 use Rattle.keel_cli.specs.Replies.{text}
 use Rattle.keel_cli.specs.Runs.{Carries, Run}
 use Rattle.keel_cli.specs.Sessions.{Session, Begins, MayBegin}
@@ -26,9 +29,6 @@ pub record Outside : Type 0 where
   pub held : Option (List ℕ)
   pub write_faults : ℕ
   pub device : Seen
-
-abbrev pub longest_input : ℕ
-longest_input = 67108864
 
 -- the replies to this command were written in part
 pub record WritesPart (old : Session) (held : Option (List ℕ)) (command : Command) (new : Session) (holds : Option (List ℕ)) : Type 0 where
@@ -48,12 +48,10 @@ CommandEnds None old held command new holds = Writes old held command new holds
 CommandEnds (Some Unwritten) old held command new holds = WritesPart old held command new holds
 CommandEnds (Some NoMemory) old held command new holds = CutShort old command new × (holds ≡ held)
 CommandEnds (Some Refused) old held command new holds = ⊥
-CommandEnds (Some TooLong) old held command new holds = ⊥
 
 -- why a run stops at this line, from old and held to new and holds
 abbrev pub Stops : LineStop → Session → Option (List ℕ) → List ℕ → Session → Option (List ℕ) → Type 0
 Stops Refused old held line new holds = IsNoCommand line × (new ≡ old) × (holds ≡ held)
-Stops TooLong old held line new holds = (longest_line < length line) × (new ≡ old) × (holds ≡ held)
 Stops Unwritten old held line new holds = (command : Command) × Says line (command ∷ []) × WritesPart old held command new holds
 Stops NoMemory old held line new holds = ((new ≡ old) ⊎ ((command : Command) × Says line (command ∷ []) × CutShort old command new)) × (holds ≡ held)
 
@@ -108,36 +106,75 @@ abbrev pub LinesRuns : Option StopPlace → Seen → Option (List ℕ) → List 
 LinesRuns stop handed_in held lines handed_back holds =
     (footing : Footing) → MayBegin footing handed_in.told → LinesRun stop footing handed_in held lines handed_back holds
 
-abbrev pub end_at : LineStop → ℕ → End
-end_at Refused line = NotACommand line
-end_at TooLong line = LongLine line
-end_at Unwritten line = WriteFault
-end_at NoMemory line = OutOfMemory
+-- ---- which lines of the input those are, where the source tells it
 
--- the input was read to its end, and its lines were carried out, or the run stopped at one of them
-pub record Reads (stop : Option StopPlace) (before after : Outside) : Type 0 where
-  pub input : List ℕ
-  pub taken : TakesAll before.left after.left longest_input input
-  pub runs : LinesRuns stop before.device before.held (lines_of input) after.device after.held
+-- they are the first of its lines
+abbrev pub AreFirst : List ℕ → List (List ℕ) → Type 0
+AreFirst input lines = (more : List (List ℕ)) × (lines_of input ≡ lines ++ more)
+
+-- they are all of its lines
+pub record AreAll (input : List ℕ) (lines : List (List ℕ)) : Type 0 where
+  pub lines_are : lines_of input ≡ lines
+  pub short : length input ≤ longest_input
+
+-- the next line, of this number, is too long
+pub record AreBeforeLong (number : ℕ) (input : List ℕ) (lines : List (List ℕ)) : Type 0 where
+  pub line : List ℕ
+  pub more : List (List ℕ)
+  pub lines_are : lines_of input ≡ lines ++ line ∷ more
+  pub long : longest_line < length line
+  pub number_is : number ≡ length lines + 1
+
+-- the input is too long, and they are the lines that are whole within its first bytes
+pub record AreWithin (input : List ℕ) (lines : List (List ℕ)) : Type 0 where
+  pub long : longest_input < length input
+  pub lines_are : whole_lines (take longest_input input) ≡ lines
+
+-- they are the lines that are whole among the bytes that were taken, and these are left
+pub record AreTaken (left : Option (List ℕ)) (input : List ℕ) (lines : List (List ℕ)) : Type 0 where
+  pub taken : List ℕ
+  pub rest : List ℕ
+  pub input_is : input ≡ taken ++ rest
+  pub left_is : left ≡ Some rest
+  pub lines_are : whole_lines taken ≡ lines
+
+-- of an input that is told, this holds
+abbrev pub OfInput : Option (List ℕ) → (List ℕ → Type 0) → Type 0
+OfInput None P = Unit {0}
+OfInput (Some input) P = P input
+
+-- such lines of the input were carried out, up to the end of the last one or up to a stop at it
+pub record Reads (stop : Option StopPlace) (are : List ℕ → List (List ℕ) → Type 0) (before after : Outside) : Type 0 where
+  pub lines : List (List ℕ)
+  pub of_input : OfInput before.left (λ input. are input lines)
+  pub runs : LinesRuns stop before.device before.held lines after.device after.held
 
 abbrev pub stop_at : LineStop → ℕ → Option StopPlace
 stop_at stop line = Some (record { stop = stop; line = line })
 
--- nothing was carried out or written
-pub record Untouched (before after : Outside) : Type 0 where
-  pub held : after.held ≡ before.held
-  pub device : after.device ≡ before.device
-
 -- what was done where the run ends so
 abbrev pub Ends : End → Outside → Outside → Type 0
-Ends Completed before after = Reads None before after
+Ends Completed before after = Reads None AreAll before after × IsAtEnd after.left
 Ends Usage before after = after ≡ before
-Ends (NotACommand line) before after = Reads (stop_at Refused line) before after
-Ends (LongLine line) before after = Reads (stop_at TooLong line) before after
-Ends LongInput before after = TakesMore before.left after.left longest_input × Untouched before after
-Ends ReadFault before after = Rose before.read_faults after.read_faults × Untouched before after
-Ends WriteFault before after = Rose before.write_faults after.write_faults × ((line : ℕ) × Reads (stop_at Unwritten line) before after)
-Ends OutOfMemory before after = Untouched before after ⊎ ((line : ℕ) × Reads (stop_at NoMemory line) before after)
+Ends (NotACommand line) before after = Reads (stop_at Refused line) AreFirst before after
+Ends (LongLine line) before after = Reads None (AreBeforeLong line) before after
+Ends LongInput before after = Reads None AreWithin before after
+Ends ReadFault before after = Rose before.read_faults after.read_faults × Reads None (AreTaken after.left) before after
+Ends WriteFault before after = Rose before.write_faults after.write_faults × ((line : ℕ) × Reads (stop_at Unwritten line) AreFirst before after)
+Ends OutOfMemory before after = Reads None AreFirst before after ⊎ ((line : ℕ) × Reads (stop_at NoMemory line) AreFirst before after)
+
+-- the end of a run that stops so at a line
+abbrev pub end_at : LineStop → ℕ → End
+end_at Refused line = NotACommand line
+end_at Unwritten line = WriteFault
+end_at NoMemory line = OutOfMemory
+
+-- the end of a run that gets no line behind so many
+abbrev pub end_behind : LineEnd → ℕ → End
+end_behind line_end.TooLong lines = LongLine (lines + 1)
+end_behind line_end.LongInput lines = LongInput
+end_behind line_end.Fault lines = ReadFault
+end_behind line_end.OutOfMemory lines = OutOfMemory
 
 abbrev pub status_of : End → ℕ
 status_of Completed = 0
@@ -182,8 +219,3 @@ abbrev pub StaysOrRunsOut : End → End → Type 0
 StaysOrRunsOut (NotACommand line) told = (told ≡ NotACommand line) ⊎ (told ≡ OutOfMemory)
 StaysOrRunsOut (LongLine line) told = (told ≡ LongLine line) ⊎ (told ≡ OutOfMemory)
 StaysOrRunsOut end told = told ≡ end
-
--- the end of a run that stops so
-abbrev pub end_of : Option StopPlace → End
-end_of None = Completed
-end_of (Some at) = end_at at.stop at.line

@@ -1,8 +1,6 @@
 -- The runs of the machine over commands, and how far a run over lines has come.
-use Rattle.std.specs.Prelude.{◌≡◌, ◌≢◌, ◌⊎◌, ℕ, ◌+◌, ◌-◌, ◌^◌, min, Bool, true, false, Option, None, Some, List, [], ◌∷◌, ◌++◌, length, map, Result, Ok, Err}
-use Rattle.std.specs.Io.KnownBytes.{Appends}
+use Rattle.std.specs.Prelude.{◌≡◌, ◌⊎◌, ℕ, ◌+◌, ◌-◌, ◌^◌, min, Bool, true, false, Option, None, Some, List, [], ◌∷◌, ◌++◌, length, map, Result, Ok, Err}
 use Rattle.keel_base.specs.declared.listing.Entry.{Entry}
-use Rattle.keel_base.specs.declared.op.Batch.{Batch}
 use Rattle.keel_disk.specs.declared.error.DiskError.{DiskError}
 use Rattle.keel_disk.specs.declared.error.DiskError.TheVariants as disk
 use Rattle.keel_reading.specs.declared.refusal.OpenRefusal.{OpenRefusal}
@@ -10,8 +8,7 @@ use Rattle.keel_reading.specs.declared.refusal.OpenRefusal.TheVariants as refusa
 use Rattle.keel_reading.specs.declared.replay.Found.{Found}
 use Rattle.keel_machine.specs.declared.answers.Got.{Got}
 use Rattle.keel_machine.specs.declared.answers.Got.TheVariants as got
-use Rattle.keel_machine.specs.Opening.{point_found}
-use Rattle.keel_machine.specs.States.{State, Seen, Footing, Unopened, new_story}
+use Rattle.keel_machine.specs.States.{State}
 use Rattle.keel_machine.specs.Turns.{Turn, Opening, Getting, Listing, Crashing}
 use Rattle.keel_recovery.specs.Machine.{is_open}
 use Rattle.keel_script.specs.declared.command.Command.{Command}

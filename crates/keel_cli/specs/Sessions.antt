@@ -1,5 +1,5 @@
 -- What a driver has between two commands.
-use Rattle.std.specs.Prelude.{◌≡◌, ℕ, None, [], Option, List}
+use Rattle.std.specs.Prelude.{◌≡◌, ℕ, None, [], Option}
 use Rattle.keel_base.specs.declared.options.Options.{Options}
 use Rattle.keel_base.specs.Points.{origin}
 use Rattle.keel_disk.specs.Told.{Told}

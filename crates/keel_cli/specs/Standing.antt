@@ -1,5 +1,5 @@
 -- What the device stands for that a run hands back.
-use Rattle.std.specs.Prelude.{◌≡◌, ◌≢◌, ℕ, ◌<◌, ◌-◌, ◌^◌, Option}
+use Rattle.std.specs.Prelude.{◌≡◌, ◌≢◌, ◌<◌, ◌-◌, ◌^◌, Option}
 use Rattle.keel_disk.specs.Told.{Told}
 use Rattle.keel_machine.specs.States.{State, Footing, Known, Unopened}
 use Rattle.keel_recovery.specs.Machine.{StandsIn, forged_of}

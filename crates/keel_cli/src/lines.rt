@@ -1,16 +1,18 @@
 // The lines of a workload, carried out in turn.
-ghost use Rattle.std.specs.Prelude.{◌≡◌, ◌+◌, ◌≤◌, length, drop};
+ghost use Rattle.std.specs.Prelude.{◌≡◌, ◌≢◌, ◌<◌, ◌-◌, ◌^◌, ◌≤◌, length};
 ghost use Rattle.keel_base.specs.Counts.{Rose};
 ghost use Rattle.keel_recovery.specs.Machine.{IsCovered};
 ghost use Rattle.keel_cli.specs.Driving.{LineLeads, StandsAt};
-ghost use Rattle.keel_cli.specs.Ends.{CommandEnds, LineEnds, LinesRuns, IsUnwritten, IsUnwrittenAt};
-ghost use Rattle.keel_cli.specs.Grammar.{length_before, lines_of};
+ghost use Rattle.keel_cli.specs.Ends.{CommandEnds, LineEnds, Ends, IsUnwritten, end_at, end_behind, outside};
+ghost use Rattle.keel_lines.specs.Lines.{longest_line};
+ghost use Rattle.keel_cli.specs.declared.top.End.TheVariants.{Usage};
 ghost use Rattle.keel_cli.specs.Places.{IsTidy, shown_by};
 ghost use Rattle.keel_cli.specs.Sessions.{Session};
 
-use crate::{Driven, Driver, carry_out, finish, text_of};
-use keel_base::{Sink, give_all};
+use crate::{Driven, Driver, End, carry_out, finish, text_of};
+use keel_base::{Sink, Source, give_all};
 use keel_disk::Device;
+use keel_lines::{LineEnd, LineReader};
 use keel_script::{Command, LineError, is_blank, read_command};
 use std::alloc::Global;
 
@@ -18,7 +20,6 @@ use std::alloc::Global;
 #[derive(Clone, Copy, Debug, PartialEq, Eq)]
 pub enum LineStop {
     Refused,
-    TooLong,
     Unwritten,
     NoMemory,
 }
@@ -37,37 +38,12 @@ pub struct LineDone<V: Device> {
     pub stop: Option<LineStop>,
 }
 
-/// The lines were carried out, or the run stops at one of them.
+/// The lines of a source were carried out, as the end says.
 #[derive(Drop)]
-pub struct LinesDone<V: Device> {
+pub struct LinesDone<S: Source, V: Device> {
+    pub source: S,
     pub device: V,
-    pub stop: Option<StopPlace>,
-}
-
-const LONGEST_LINE: usize = 8192;
-
-// How many bytes stand before the first one like this.
-fn length_before(bytes: &[u8], mark: u8) -> usize
-    ensures length { result ≡ length_before mark bytes.now }
-    ensures within { result ≤ length bytes.now }
-{
-    let mut count = 0;
-    'bytes: while count < bytes.len() && bytes[count] != mark {
-        count += 1;
-    }
-    count
-}
-
-// What stands behind the byte at this place, or at the end.
-fn behind(bytes: &[u8], end: usize) -> &[u8]
-    requires { end ≤ length bytes.now }
-    ensures { result.now ≡ drop (end + 1) bytes.now }
-{
-    if end < bytes.len() {
-        &bytes[end + 1..]
-    } else {
-        &[]
-    }
+    pub end: End,
 }
 
 // Carries out a command and writes its replies.
@@ -114,6 +90,7 @@ fn carry_line<K: Sink, V: Device>(
     driver: Driver<V>,
     out: &mut K,
 ) -> LineDone<V>
+    requires short { length line.now ≤ longest_line }
     requires tidy { IsTidy driver.place }
     ensures tidy { IsTidy result.driver.place }
     ensures end { (now : Session) → StandsAt (shown_by V.told V.changes V.faults V.last_fault V.is_simulated) driver now → IsCovered now.store
@@ -122,12 +99,6 @@ fn carry_line<K: Sink, V: Device>(
     ensures later { K.faults out.old ≤ K.faults out.new }
     ensures cause { IsUnwritten result.stop → Rose (K.faults out.old) (K.faults out.new) }
 {
-    if line.len() > LONGEST_LINE {
-        return LineDone {
-            driver,
-            stop: Some(LineStop::TooLong),
-        };
-    }
     if is_blank(line) {
         return LineDone { driver, stop: None };
     }
@@ -144,38 +115,72 @@ fn carry_line<K: Sink, V: Device>(
     }
 }
 
-/// Carries out the lines of the input, up to the first at which the run stops.
-pub fn carry_lines<K: Sink, V: Device>(
+// How a run ends that stops at this line.
+fn end_at(stop: LineStop, line: u64) -> End
+    ensures { result ≡ end_at stop line }
+{
+    match stop {
+        LineStop::Refused => End::NotACommand { line },
+        LineStop::Unwritten => End::WriteFault,
+        LineStop::NoMemory => End::OutOfMemory,
+    }
+}
+
+// How a run ends that gets no line behind so many.
+fn end_behind(error: LineEnd, lines: u64) -> End
+    requires { lines < 2 ^ 64 - 1 }
+    ensures { result ≡ end_behind error lines }
+{
+    match error {
+        LineEnd::TooLong => End::LongLine { line: lines + 1 },
+        LineEnd::LongInput => End::LongInput,
+        LineEnd::Fault => End::ReadFault,
+        LineEnd::OutOfMemory => End::OutOfMemory,
+    }
+}
+
+/// Carries out the lines of a source as they are taken, up to the first at which the run stops.
+pub fn carry_lines<S: Source, K: Sink, V: Device>(
     alloc: Global,
-    input: &[u8],
+    source: S,
     out: &mut K,
     device: V,
-) -> LinesDone<V>
-    ensures end { LinesRuns result.stop (shown_by V.told V.changes V.faults V.last_fault V.is_simulated device) (K.held out.old) (lines_of input.now)
-        (shown_by V.told V.changes V.faults V.last_fault V.is_simulated result.device) (K.held out.new) }
-    ensures later { K.faults out.old ≤ K.faults out.new }
-    ensures cause { IsUnwrittenAt result.stop → Rose (K.faults out.old) (K.faults out.new) }
+) -> LinesDone<S, V>
+    ensures end { Ends result.end
+        (outside (S.remaining source) (S.faults source) (K.held out.old) (K.faults out.old) (shown_by V.told V.changes V.faults V.last_fault V.is_simulated device))
+        (outside (S.remaining result.source) (S.faults result.source) (K.held out.new) (K.faults out.new) (shown_by V.told V.changes V.faults V.last_fault V.is_simulated result.device)) }
+    ensures ran { result.end ≢ Usage }
 {
+    let mut reader = LineReader::new(alloc, source);
     let mut driver = Driver::new(device);
-    let mut rest = input;
     let mut number: u64 = 0;
-    'lines: while rest.len() > 0 {
-        let end = length_before(rest, b'\n');
-        number += 1;
-        let done = carry_line(alloc, &rest[..end], driver, out);
-        driver = done.driver;
-        match done.stop {
-            None => rest = behind(rest, end),
-            Some(stop) => {
+    'lines: loop {
+        let line = match reader.next() {
+            Ok(Some(line)) => line,
+            Ok(None) => {
                 return LinesDone {
+                    source: reader.into_source(),
                     device: finish(driver.place),
-                    stop: Some(StopPlace { stop, line: number }),
+                    end: End::Completed,
                 };
             }
+            Err(error) => {
+                return LinesDone {
+                    source: reader.into_source(),
+                    device: finish(driver.place),
+                    end: end_behind(error, number),
+                };
+            }
+        };
+        number += 1;
+        let done = carry_line(alloc, line.as_slice(), driver, out);
+        driver = done.driver;
+        if let Some(stop) = done.stop {
+            return LinesDone {
+                source: reader.into_source(),
+                device: finish(driver.place),
+                end: end_at(stop, number),
+            };
         }
-    }
-    LinesDone {
-        device: finish(driver.place),
-        stop: None,
     }
 }

@@ -30,7 +30,7 @@ pub use lines::{LineDone, LineStop, LinesDone, StopPlace, carry_lines};
 pub use place::{Carried, Place, carry_on_store, finish};
 use std::process::ExitCode;
 use std::{env, io};
-pub use top::{End, Ended, Worked, run_words};
+pub use top::{End, Ended, run_words};
 
 // How many bytes the device holds.
 const CAPACITY: u64 = 1073741824;

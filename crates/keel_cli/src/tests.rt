@@ -5,11 +5,11 @@ use keel_simdisk::SimDisk;
 use std::alloc::Global;
 use std::test::Fail;
 
-// Calls of which the first one fails, or none.
-fn first_call(alloc: Global, fails: bool) -> Result<Calls, Fail> {
+// Calls of which this one fails, counted from 0, or none.
+fn failing_call(alloc: Global, fails: Option<u64>) -> Result<Calls, Fail> {
     let mut calls = Calls::new(alloc);
-    if fails {
-        calls.push(0).ok().ok_or("memory")?;
+    if let Some(call) = fails {
+        calls.push(call).ok().ok_or("memory")?;
     }
     Ok(calls)
 }
@@ -35,8 +35,9 @@ struct Failing {
 struct Row<'a> {
     words: &'a [&'a str],
     input: &'a [u8],
-    read_fails: bool,
-    write_fails: bool,
+    // The call of the source or the sink that fails.
+    read_fails: Option<u64>,
+    write_fails: Option<u64>,
     failing: Option<Failing>,
     status: u8,
     out: &'a [u8],
@@ -48,8 +49,8 @@ fn run<'a>(input: &'a [u8], out: &'a [u8]) -> Row<'a> {
     Row {
         words: &["run"],
         input,
-        read_fails: false,
-        write_fails: false,
+        read_fails: None,
+        write_fails: None,
         failing: None,
         status: 0,
         out,
@@ -84,9 +85,9 @@ fn run_row(
     row: &Row<'_>,
 ) -> Result<Ended<MemSource, MemSink, MemSink, SimDisk>, Fail> {
     let input = Bytes::from_slice(alloc, row.input).ok().ok_or("memory")?;
-    let source = MemSource::new(input, first_call(alloc, row.read_fails)?);
-    let out = MemSink::new(alloc, first_call(alloc, row.write_fails)?);
-    let err = MemSink::new(alloc, first_call(alloc, false)?);
+    let source = MemSource::new(input, failing_call(alloc, row.read_fails)?);
+    let out = MemSink::new(alloc, failing_call(alloc, row.write_fails)?);
+    let err = MemSink::new(alloc, failing_call(alloc, None)?);
     let words = words_of(alloc, row.words)?;
     let mut device = SimDisk::new(alloc, 1073741824);
     if let Some(Failing { call, skip, keep }) = row.failing {
@@ -158,6 +159,7 @@ fn runs_end_as_they_must(rt: HostRuntime) -> Result<(), Fail> {
         ),
         run(b"# a comment\n   \n\n  open  \n", b"opened 0\n"),
         run_refused(b"open\nput a\n", b"opened 0\n", b"line 2: not a command\n"),
+        run_refused(&[b'#'; 8193], b"", b"line 1: longer than 8192 bytes\n"),
         run_refused(b"tick +1\n", b"", b"line 1: not a command\n"),
         run_refused(b"\ntick 01\n", b"", b"line 2: not a command\n"),
         Row {
@@ -167,13 +169,20 @@ fn runs_end_as_they_must(rt: HostRuntime) -> Result<(), Fail> {
             ..run(b"open", b"")
         },
         Row {
-            read_fails: true,
+            read_fails: Some(0),
             status: 4,
             err: b"read fault\n",
-            ..run(b"open", b"")
+            ..run(b"open\n", b"")
+        },
+        // What was taken before a fault was carried out.
+        Row {
+            read_fails: Some(1),
+            status: 4,
+            err: b"read fault\n",
+            ..run(b"open\nget a", b"opened 0\n")
         },
         Row {
-            write_fails: true,
+            write_fails: Some(0),
             status: 5,
             err: b"write fault\n",
             ..run(b"open", b"")

@@ -2,12 +2,12 @@
 ghost use Rattle.std.specs.Prelude.{◌≡◌, ◌⊎◌, ◌↔◌, IfOk, IsTrue, map};
 ghost use Rattle.std.specs.String.{string_bytes};
 ghost use Rattle.keel_cli.specs.declared.top.End.{End};
-ghost use Rattle.keel_cli.specs.Ends.{Ends, NamesNoLine, StaysOrRunsOut, end_of, named, outside, message_of, status_of, Tells};
+ghost use Rattle.keel_cli.specs.Ends.{Ends, NamesNoLine, StaysOrRunsOut, named, outside, message_of, status_of, Tells};
 ghost use Rattle.keel_cli.specs.Places.{shown_by};
 ghost use Rattle.keel_cli.specs.Words.{AskForRun};
 
-use crate::{LineStop, StopPlace, carry_lines};
-use keel_base::{OutOfMemory, Sink, Source, TakeEnd, give_all, take_all};
+use crate::{LinesDone, carry_lines};
+use keel_base::{OutOfMemory, Sink, Source, give_all};
 use keel_disk::Device;
 use std::alloc::Global;
 
@@ -34,15 +34,6 @@ pub struct Ended<S: Source, K: Sink, E: Sink, V: Device> {
     pub device: V,
 }
 
-/// A run ended so, and hands the device back.
-#[derive(Drop)]
-pub struct Worked<V: Device> {
-    pub end: End,
-    pub device: V,
-}
-
-const LONGEST_INPUT: usize = 67108864;
-
 fn ask_for_run(words: &Vec<String>) -> bool
     ensures { IsTrue result ↔ AskForRun (map string_bytes words.now.items) }
 {
@@ -53,59 +44,27 @@ fn ask_for_run(words: &Vec<String>) -> bool
     }
 }
 
-fn end_of(stop: Option<StopPlace>) -> End
-    ensures { result ≡ end_of stop }
-{
-    match stop {
-        None => End::Completed,
-        Some(StopPlace { stop, line }) => match stop {
-            LineStop::Refused => End::NotACommand { line },
-            LineStop::TooLong => End::LongLine { line },
-            LineStop::Unwritten => End::WriteFault,
-            LineStop::NoMemory => End::OutOfMemory,
-        },
-    }
-}
-
-/// Reads the workload to its end, and carries it out, where the words ask for it.
+/// Carries out the workload of the source, where the words ask for it.
 fn work<S: Source, K: Sink, V: Device>(
     alloc: Global,
     words: &Vec<String>,
-    source: &mut S,
+    source: S,
     out: &mut K,
     device: V,
-) -> Worked<V>
+) -> LinesDone<S, V>
     ensures usage { (result.end ≡ End.Usage) ↔ ¬ AskForRun (map string_bytes words.now.items) }
     ensures ends { Ends result.end
-        (outside (S.remaining source.old) (S.faults source.old) (K.held out.old) (K.faults out.old) (shown_by V.told V.changes V.faults V.last_fault V.is_simulated device))
-        (outside (S.remaining source.new) (S.faults source.new) (K.held out.new) (K.faults out.new) (shown_by V.told V.changes V.faults V.last_fault V.is_simulated result.device)) }
+        (outside (S.remaining source) (S.faults source) (K.held out.old) (K.faults out.old) (shown_by V.told V.changes V.faults V.last_fault V.is_simulated device))
+        (outside (S.remaining result.source) (S.faults result.source) (K.held out.new) (K.faults out.new) (shown_by V.told V.changes V.faults V.last_fault V.is_simulated result.device)) }
 {
-    if !ask_for_run(words) {
-        return Worked {
+    if ask_for_run(words) {
+        carry_lines(alloc, source, out, device)
+    } else {
+        LinesDone {
+            source,
+            device,
             end: End::Usage,
-            device,
-        };
-    }
-    match take_all(alloc, source, LONGEST_INPUT) {
-        Ok(input) => {
-            let done = carry_lines(alloc, &input, out, device);
-            Worked {
-                end: end_of(done.stop),
-                device: done.device,
-            }
         }
-        Err(TakeEnd::Fault) => Worked {
-            end: End::ReadFault,
-            device,
-        },
-        Err(TakeEnd::TooLong) => Worked {
-            end: End::LongInput,
-            device,
-        },
-        Err(TakeEnd::OutOfMemory) => Worked {
-            end: End::OutOfMemory,
-            device,
-        },
     }
 }
 
@@ -201,14 +160,13 @@ pub fn run_words<S: Source, K: Sink, E: Sink, V: Device>(
         × Tells (message_of end) (E.held err) (E.faults err) (E.held result.err) (E.faults result.err) }
     ensures usage { (result.status ≡ 2) ↔ ¬ AskForRun (map string_bytes words.now.items) }
 {
-    let mut source = source;
     let mut out = out;
     let mut err = err;
-    let worked = work(alloc, words, &mut source, &mut out, device);
+    let worked = work(alloc, words, source, &mut out, device);
     let end = tell(alloc, &mut err, worked.end);
     Ended {
         status: status_of(end),
-        source,
+        source: worked.source,
         out,
         err,
         device: worked.device,

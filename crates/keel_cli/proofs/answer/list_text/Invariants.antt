@@ -1,4 +1,4 @@
-use Rattle.std.proofs.Common.{◌≡◌, ◌++◌, take}
+use Rattle.std.proofs.Common.{◌≡◌, take}
 use Rattle.std.specs.List.{flat_map}
 use Rattle.keel_cli.specs.Replies.{file_line}
 use Rattle.keel_cli.proofs.answer.list_text.Given as goal

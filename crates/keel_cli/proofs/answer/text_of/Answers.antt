@@ -1,4 +1,4 @@
-use Rattle.std.proofs.Common.{◌≡◌, ◌∙◌, ℕ, List, Result, Ok, Err, IfOk, sym}
+use Rattle.std.proofs.Common.{◌≡◌, ◌∙◌, ℕ, List, Result, Ok, Err, IfOk}
 use Rattle.keel_cli.proofs.Listings.{listing_text}
 use Rattle.keel_cli.proofs.answer.text_of.Goals as goal
 

@@ -1,4 +1,4 @@
-use Rattle.std.proofs.Common.{◌≡◌, None, refl, sym, subst, ap, ◌∙◌, arith, Ok, true, false}
+use Rattle.std.proofs.Common.{None, refl, subst, ap, arith, Ok}
 use Rattle.keel_machine.specs.declared.steps.WriteStep.{WriteStep}
 use Rattle.keel_machine.specs.Turns.{Writing}
 use Rattle.keel_core.specs.Views.{Turns}

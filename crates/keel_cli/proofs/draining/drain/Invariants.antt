@@ -1,4 +1,4 @@
-use Rattle.std.proofs.Common.{ℕ, ◌≤◌, ◌-◌}
+use Rattle.std.proofs.Common.{◌≤◌, ◌-◌}
 use Rattle.keel_machine.specs.States.{State}
 use Rattle.keel_core.specs.Views.{StandsFor}
 use Rattle.keel_cli.specs.Drains.{Moves}

@@ -1,4 +1,4 @@
-use Rattle.std.proofs.Common.{◌∙◌, sym, ap}
+use Rattle.std.proofs.Common.{◌∙◌}
 use Rattle.keel_cli.specs.Places.{shown_by}
 use Rattle.keel_cli.proofs.Ending.{cut_at_call, cut_at_text, written, written_in_part}
 use Rattle.keel_cli.proofs.lines.carry_command.Goals as goal

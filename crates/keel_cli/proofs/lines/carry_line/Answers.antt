@@ -1,36 +1,23 @@
-use Rattle.std.proofs.Common.{◌≡◌, ◌≤◌, ℕ, false, true, List, Option, Some, None, Err, refl, sym, ap, ◌∙◌, inl, arith}
-use Rattle.keel_machine.specs.States.{Seen}
-use Rattle.keel_script.specs.declared.command.Command.{Command}
-use Rattle.keel_script.specs.Grammar as script
-use Rattle.keel_cli.specs.declared.driver.Driver.{Driver}
-use Rattle.keel_cli.specs.declared.lines.LineStop.{LineStop}
-use Rattle.keel_cli.specs.Driving.{LineLeads}
-use Rattle.keel_cli.specs.Ends.{CommandEnds, LineEnds}
-use Rattle.keel_cli.specs.Grammar.{longest_line}
+use Rattle.std.proofs.Common.{Err, refl, ap, inl}
 use Rattle.keel_cli.specs.Places.{shown_by}
-use Rattle.keel_cli.specs.Sessions.{Session}
 use Rattle.keel_cli.proofs.Ending.{leaves_now, line_of_command}
 use Rattle.keel_cli.proofs.GoingOn.{Progress-blank}
 use Rattle.keel_cli.proofs.lines.carry_line.Goals as goal
 
-pub returns-then-line-gt-LONGEST_LINE-clause-end : goal.returns-then-line-gt-LONGEST_LINE-clause-end
-returns-then-line-gt-LONGEST_LINE-clause-end g c now stands covered =
-    leaves_now g.row.V.Denot (shown_by g.V.Disk.told g.V.Disk.changes g.V.Disk.faults g.V.Disk.last_fault g.V.Disk.is_simulated) c.args.driver now stands (c.if-line-gt-LONGEST_LINE.true, refl, refl)
-
 pub returns-then-is_blank-clause-end : goal.returns-then-is_blank-clause-end
 returns-then-is_blank-clause-end g c now stands covered =
-    (now, stands, Progress-blank now _ c.args.line.now c.if-line-gt-LONGEST_LINE.false (c.if-is_blank.ensures.0 refl))
+    (now, stands, Progress-blank now _ c.args.line.now c.requires.short (c.if-is_blank.ensures.0 refl))
 
 pub returns-in-Ok-clause-end : goal.returns-in-Ok-clause-end
 returns-in-Ok-clause-end g c now stands covered =
-    line_of_command g.row.V.Denot (shown_by g.V.Disk.told g.V.Disk.changes g.V.Disk.faults g.V.Disk.last_fault g.V.Disk.is_simulated) c.carry_command.result.stop now c.carry_command.result.driver _ _ c.args.line.now c.in-Ok.command c.if-line-gt-LONGEST_LINE.false c.in-Ok.ensures.found
+    line_of_command g.row.V.Denot (shown_by g.V.Disk.told g.V.Disk.changes g.V.Disk.faults g.V.Disk.last_fault g.V.Disk.is_simulated) c.carry_command.result.stop now c.carry_command.result.driver _ _ c.args.line.now c.in-Ok.command c.requires.short c.in-Ok.ensures.found
     (c.carry_command.ensures.end now stands covered)
 
 pub returns-in-Err-NotACommand-clause-end : goal.returns-in-Err-NotACommand-clause-end
 returns-in-Err-NotACommand-clause-end g c now stands covered =
     leaves_now g.row.V.Denot (shown_by g.V.Disk.told g.V.Disk.changes g.V.Disk.faults g.V.Disk.last_fault g.V.Disk.is_simulated) c.args.driver now stands (
       record {
-        short = c.if-line-gt-LONGEST_LINE.false;
+        short = c.requires.short;
         not_blank = λ blank. let is = c.if-is_blank.ensures.1 blank in absurd cc;
         no_command = c.in-Err-NotACommand.ensures.refused (ap Err c.in-Err-NotACommand.field-0-is);
       },

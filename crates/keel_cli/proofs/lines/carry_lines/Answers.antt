@@ -1,52 +1,108 @@
-use Rattle.std.proofs.Common.{arith, ◌+◌, ◌∙◌, refl}
-use Rattle.std.proofs.lemmas.List.{length-drop}
+use Rattle.std.proofs.Common.{◌≡◌, ℕ, ◌+◌, List, [], ◌∷◌, ◌++◌, Ok, Err, Some, ap, arith, length, length-append, refl, ◌∙◌}
+use Rattle.keel_lines.specs.Calls.{GivesLine, IsFinished, IsHeld}
+use Rattle.keel_lines.proofs.Deliveries.{adds_line}
 use Rattle.keel_machine.specs.States.{Seen}
 use Rattle.keel_cli.specs.Places.{shown_by}
 use Rattle.keel_cli.specs.Sessions.{Session, unopened}
 use Rattle.keel_cli.proofs.Ending.{device_as}
-use Rattle.keel_cli.proofs.Running.{run_begins, run_goes_on_at, run_stops, run_ends}
+use Rattle.keel_cli.proofs.Running.{run_begins, run_goes_on, run_stops, run_ends}
+use Rattle.keel_cli.proofs.Streaming.{rose_later, nothing_given, completes, gets_none, stops_at}
 use Rattle.keel_cli.proofs.lines.carry_lines.Goals as goal
 
 pub lines-init : goal.lines-init
 lines-init g c =
     let shows : Seen = (shown_by g.V.Disk.told g.V.Disk.changes g.V.Disk.faults g.V.Disk.last_fault g.V.Disk.is_simulated) c.args.device in
     let made = c.new-driver.ensures in
+    let e = c.new-reader.ensures in
     record {
+      lines = [];
+      given = nothing_given (g.S.Source.remaining c.args.source) c.new-reader.result e.pending e.passed e.ended e.remaining;
+      number_is = refl;
+      few = omega arith;
+      within = omega (arith, e.passed);
       so_far = λ footing may.
           let first : Session = record { store = unopened footing shows; options = c.new-driver.result.settings; tick = 0 } in (
             first,
             record { store = rw made.place (record { shut = refl; device = refl }); options = refl; tick = rw made.tick refl },
-            run_begins footing shows (g.K.Sink.held c.args.out.now) c.args.input.now first (record { store = refl; options = made.options; tick = refl }) may,
+            run_begins footing shows (g.K.Sink.held c.args.out.now) first (record { store = refl; options = made.options; tick = refl }) may,
           );
       tidy = rw made.place tt;
-      few = omega arith;
       later = omega arith;
+      read_later = omega (arith, e.faults);
     }
+
+pub returns-in-Ok-None-clause-end : goal.returns-in-Ok-None-clause-end
+returns-in-Ok-None-clause-end g c =
+    let inv = c.lines.invariant in
+    let shows : Seen = (shown_by g.V.Disk.told g.V.Disk.changes g.V.Disk.faults g.V.Disk.last_fault g.V.Disk.is_simulated) c.args.device in
+    let back : Seen = (shown_by g.V.Disk.told g.V.Disk.changes g.V.Disk.faults g.V.Disk.last_fault g.V.Disk.is_simulated) c.finish.result in
+    let finished : IsFinished c.lines.reader c.next.new.self = c.in-Ok-None.ensures.end (ap Ok c.in-Ok-None.field-0-is) in
+    completes (g.S.Source.remaining c.args.source) (g.S.Source.faults c.args.source) (g.K.Sink.held c.args.out.now) (g.K.Sink.faults c.args.out.now) shows inv.lines c.lines.reader c.next.new.self
+    inv.given inv.read_later (g.S.Source.remaining c.into_source.result) (g.S.Source.faults c.into_source.result) (g.K.Sink.held c.lines.out) (g.K.Sink.faults c.lines.out) back
+    c.into_source.ensures.remaining c.into_source.ensures.faults finished
+    (λ footing may.
+    let old = inv.so_far footing may in
+    run_ends footing shows (g.K.Sink.held c.args.out.now) back may inv.lines (g.K.Sink.held c.lines.out) old.0
+    (c.finish.ensures ∙ device_as g.row.V.Denot (shown_by g.V.Disk.told g.V.Disk.changes g.V.Disk.faults g.V.Disk.last_fault g.V.Disk.is_simulated) c.lines.driver.place old.0.store old.1.store) old.2)
+
+pub returns-in-Err-clause-end : goal.returns-in-Err-clause-end
+returns-in-Err-clause-end g c =
+    let inv = c.lines.invariant in
+    let shows : Seen = (shown_by g.V.Disk.told g.V.Disk.changes g.V.Disk.faults g.V.Disk.last_fault g.V.Disk.is_simulated) c.args.device in
+    let back : Seen = (shown_by g.V.Disk.told g.V.Disk.changes g.V.Disk.faults g.V.Disk.last_fault g.V.Disk.is_simulated) c.finish-in-Err.result in
+    let e = c.in-Err.ensures in
+    let held : IsHeld c.lines.reader c.next.new.self = e.err in
+    rw c.end_behind.ensures
+    (gets_none (g.S.Source.remaining c.args.source) (g.S.Source.faults c.args.source) (g.K.Sink.held c.args.out.now) (g.K.Sink.faults c.args.out.now) shows inv.lines c.lines.reader c.next.new.self
+    inv.given inv.read_later (g.S.Source.remaining c.into_source-in-Err.result) (g.S.Source.faults c.into_source-in-Err.result) (g.K.Sink.held c.lines.out) (g.K.Sink.faults c.lines.out) back
+    c.into_source-in-Err.ensures.remaining c.into_source-in-Err.ensures.faults c.in-Err.error c.lines.number inv.number_is held
+    (λ is. e.too_long (ap Err is)) (λ is. e.long_input (ap Err is)) (λ is. e.fault (ap Err is)) (λ is. e.cause (ap Err is))
+    (λ footing may.
+    let old = inv.so_far footing may in
+    run_ends footing shows (g.K.Sink.held c.args.out.now) back may inv.lines (g.K.Sink.held c.lines.out) old.0
+    (c.finish-in-Err.ensures ∙ device_as g.row.V.Denot (shown_by g.V.Disk.told g.V.Disk.changes g.V.Disk.faults g.V.Disk.last_fault g.V.Disk.is_simulated) c.lines.driver.place old.0.store old.1.store) old.2))
+
+pub returns-in-Some-clause-end : goal.returns-in-Some-clause-end
+returns-in-Some-clause-end g c =
+    let inv = c.lines.invariant in
+    let shows : Seen = (shown_by g.V.Disk.told g.V.Disk.changes g.V.Disk.faults g.V.Disk.last_fault g.V.Disk.is_simulated) c.args.device in
+    let back : Seen = (shown_by g.V.Disk.told g.V.Disk.changes g.V.Disk.faults g.V.Disk.last_fault g.V.Disk.is_simulated) c.finish-in-Some.result in
+    let line : List ℕ = c.in-Ok-Some.line in
+    let out = c.carry_line-done.new.out in
+    let gives : GivesLine c.lines.reader c.next.new.self line = rw c.in-Ok-Some.field-0-is at c.in-Ok-Some.ensures.line in
+    let number : c.lines.number + 1 ≡ length inv.lines + 1 = ap (λ n. n + 1) inv.number_is in
+    rw c.end_at.ensures
+    (stops_at (g.S.Source.remaining c.args.source) (g.S.Source.faults c.args.source) (g.K.Sink.held c.args.out.now) (g.K.Sink.faults c.args.out.now) shows inv.lines c.lines.reader c.next.new.self
+    inv.given inv.read_later (g.S.Source.remaining c.into_source-in-Some.result) (g.S.Source.faults c.into_source-in-Some.result) (g.K.Sink.held out) (g.K.Sink.faults out) back
+    c.into_source-in-Some.ensures.remaining c.into_source-in-Some.ensures.faults c.in-Some.stop (c.lines.number + 1) line gives
+    (λ is. rose_later (g.K.Sink.faults c.args.out.now) (g.K.Sink.faults c.lines.out) (g.K.Sink.faults out) inv.later (c.carry_line-done.ensures.cause (c.in-Some.is ∙ ap Some is)))
+    (λ footing may.
+    let old = inv.so_far footing may in
+    let next = rw (c.in-Some.is, c.as_slice.ensures) at c.carry_line-done.ensures.end old.0 old.1 old.2.covered in
+    run_stops footing shows (g.K.Sink.held c.args.out.now) back may inv.lines line (c.lines.number + 1) (g.K.Sink.held c.lines.out) (g.K.Sink.held out) old.0 next.0
+    (c.finish-in-Some.ensures ∙ next.1) number c.in-Some.stop old.2 next.2))
 
 pub lines-preserved : goal.lines-preserved
 lines-preserved g c =
-    let done = c.carry_line-done in
+    let inv = c.lines.invariant in
+    let shows : Seen = (shown_by g.V.Disk.told g.V.Disk.changes g.V.Disk.faults g.V.Disk.last_fault g.V.Disk.is_simulated) c.args.device in
+    let line : List ℕ = c.in-Ok-Some.line in
+    let out = c.carry_line-done.new.out in
+    let gives : GivesLine c.lines.reader c.next.new.self line = rw c.in-Ok-Some.field-0-is at c.in-Ok-Some.ensures.line in
     record {
+      lines = inv.lines ++ line ∷ [];
+      given = adds_line (g.S.Source.remaining c.args.source) c.lines.reader c.next.new.self inv.lines line inv.given gives;
+      number_is = omega (arith, inv.number_is, length-append inv.lines (line ∷ []));
+      few = omega (arith, inv.few, gives.further);
+      within = gives.within;
       so_far = λ footing may.
-          let old = c.lines.invariant.so_far footing may in
-          let next = rw c.in-None.is at done.ensures.end old.0 old.1 old.2.covered in (
+          let old = inv.so_far footing may in
+          let next = rw (c.in_default.is, c.as_slice.ensures) at c.carry_line-done.ensures.end old.0 old.1 old.2.covered in (
             next.0,
             next.1,
-            run_goes_on_at footing _ _ c.args.input.now c.lines.rest.now c.behind-rest.result.now c.length_before-end.result c.lines.number _ _ old.0 next.0
-                c.length_before-end.ensures.length c.behind-rest.ensures old.2 c.lines-test.true next.2,
+            run_goes_on footing shows (g.K.Sink.held c.args.out.now) inv.lines line (g.K.Sink.held c.lines.out) (g.K.Sink.held out) old.0 next.0 old.2 next.2,
           );
-      tidy = done.ensures.tidy;
-      few = rw c.behind-rest.ensures (omega (arith, length-drop (c.length_before-end.result + 1) c.lines.rest.now));
-      later = omega (arith, done.ensures.later);
+      tidy = c.carry_line-done.ensures.tidy;
+      later = omega (arith, inv.later, c.carry_line-done.ensures.later);
+      read_later = omega (arith, inv.read_later, c.next.ensures.later);
     }
-
-pub returns-in-Some-clause-end : goal.returns-in-Some-clause-end
-returns-in-Some-clause-end g c footing may =
-    let old = c.lines.invariant.so_far footing may in
-    let next = rw (c.in-Some.is, c.length_before-end.ensures.length) at c.carry_line-done.ensures.end old.0 old.1 old.2.covered in
-    run_stops footing _ _ c.args.input.now c.lines.rest.now c.lines.number _ _ old.0 next.0 _ may (c.finish.ensures ∙ next.1) c.in-Some.stop old.2 c.lines-test.true next.2
-
-pub returns-clause-end : goal.returns-clause-end
-returns-clause-end g c footing may =
-    let old = c.lines.invariant.so_far footing may in
-    run_ends footing _ _ c.args.input.now c.lines.rest.now c.lines.number _ old.0 _ may (c.finish-2.ensures ∙ device_as g.row.V.Denot (shown_by g.V.Disk.told g.V.Disk.changes g.V.Disk.faults g.V.Disk.last_fault g.V.Disk.is_simulated) c.lines.driver.place old.0.store old.1.store) old.2 c.lines-test.false

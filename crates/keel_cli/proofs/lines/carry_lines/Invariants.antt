@@ -1,4 +1,6 @@
-use Rattle.std.proofs.Common.{◌≤◌, ◌+◌, length}
+use Rattle.std.proofs.Common.{◌≡◌, ◌≤◌, ◌-◌, ℕ, List, length}
+use Rattle.keel_lines.specs.Delivered.{Delivered}
+use Rattle.keel_lines.specs.Lines.{longest_input}
 use Rattle.keel_machine.specs.States.{Footing}
 use Rattle.keel_cli.specs.Driving.{DriverLeads}
 use Rattle.keel_cli.specs.Places.{IsTidy, shown_by}
@@ -6,14 +8,20 @@ use Rattle.keel_cli.specs.Sessions.{MayBegin}
 use Rattle.keel_cli.proofs.Running.{RunsSoFar}
 use Rattle.keel_cli.proofs.lines.carry_lines.Given as goal
 
+-- these lines were given, and carried out
 abbrev pub invariant-lines : goal.invariant-lines
 invariant-lines g l = record {
+  lines : List (List ℕ);
+  given : Delivered (g.S.Source.remaining l.fn.source) l.reader lines;
+  number_is : l.number ≡ length lines;
+  few : l.number ≤ l.reader.passed;
+  within : l.reader.passed ≤ longest_input;
   so_far : (footing : Footing) → MayBegin footing (g.V.Disk.told l.fn.device)
-      → DriverLeads (shown_by g.V.Disk.told g.V.Disk.changes g.V.Disk.faults g.V.Disk.last_fault g.V.Disk.is_simulated) l.driver (RunsSoFar footing ((shown_by g.V.Disk.told g.V.Disk.changes g.V.Disk.faults g.V.Disk.last_fault g.V.Disk.is_simulated) l.fn.device) (g.K.Sink.held l.fn.out) l.input l.rest l.number (g.K.Sink.held l.out));
+      → DriverLeads (shown_by g.V.Disk.told g.V.Disk.changes g.V.Disk.faults g.V.Disk.last_fault g.V.Disk.is_simulated) l.driver (RunsSoFar footing ((shown_by g.V.Disk.told g.V.Disk.changes g.V.Disk.faults g.V.Disk.last_fault g.V.Disk.is_simulated) l.fn.device) (g.K.Sink.held l.fn.out) lines (g.K.Sink.held l.out));
   tidy : IsTidy l.driver.place;
-  few : l.number + length l.rest ≤ length l.input;
   later : g.K.Sink.faults l.fn.out ≤ g.K.Sink.faults l.out;
+  read_later : g.S.Source.faults l.fn.source ≤ l.reader.faults;
 }
 
 abbrev pub decreases-lines : goal.decreases-lines
-decreases-lines g l = length l.rest
+decreases-lines g l = longest_input - l.reader.passed

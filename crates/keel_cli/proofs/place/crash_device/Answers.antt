@@ -1,5 +1,4 @@
-use Rattle.std.proofs.Common.{refl, sym, subst, ◌∙◌, ap}
-use Rattle.keel_machine.specs.States.{Seen}
+use Rattle.std.proofs.Common.{sym, ◌∙◌}
 use Rattle.keel_cli.specs.Places.{shown_by}
 use Rattle.keel_cli.proofs.Carrying.{crashed, crash_cut, dropped, not_crashed_told, stayed}
 use Rattle.keel_cli.proofs.place.crash_device.Goals as goal

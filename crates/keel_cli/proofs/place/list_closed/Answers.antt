@@ -1,6 +1,6 @@
-use Rattle.std.proofs.Common.{false, refl, sym, subst}
+use Rattle.std.proofs.Common.{false, refl}
 use Rattle.keel_machine.specs.States.{Seen}
-use Rattle.keel_machine.specs.Turns.{Answers, after, Listing}
+use Rattle.keel_machine.specs.Turns.{after, Listing}
 use Rattle.keel_cli.specs.declared.place.Place.TheVariants.{Closed}
 use Rattle.keel_cli.specs.Places.{shown_by}
 use Rattle.keel_cli.proofs.Carrying.{listed, list_answers}

@@ -1,4 +1,4 @@
-use Rattle.std.proofs.Common.{true, refl, sym, ap}
+use Rattle.std.proofs.Common.{true, refl}
 use Rattle.keel_machine.specs.Turns.{after, Listing}
 use Rattle.keel_cli.specs.declared.place.Place.TheVariants.{Open}
 use Rattle.keel_cli.specs.Places.{shown_by}

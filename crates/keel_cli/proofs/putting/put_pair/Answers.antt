@@ -1,4 +1,4 @@
-use Rattle.std.proofs.Common.{◌≡◌, Result, Ok, Err, refl, inl, inr, OnErr}
+use Rattle.std.proofs.Common.{Result, Ok, Err, refl, inl, inr, OnErr}
 use Rattle.keel_cli.proofs.putting.put_pair.Goals as goal
 
 on_err_more : {T E P Q : Type 0} (r : Result T E) → (P → Q) → OnErr r P → OnErr r Q
