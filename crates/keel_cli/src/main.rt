@@ -1,15 +1,18 @@
-//! The program: a workload of commands is read, carried out on a store, and answered.
+//! The program: a workload of commands is carried out on a store, and answered.
 //!
 //! `run_words` is the top call, generic over where the input comes from, where output and messages go, and the
-//! device. Its contract: the status says how the run ended. With 0 the input was read to its end, each line says
-//! its command, the commands are a run of the machine (`keel_machine`) from a store that was never opened, each
-//! reply prints the answer of its calls, and the output grew by just these lines. With 3, 5 and 6 that holds of
-//! the lines before the one at which the run stopped. The device is handed back as the machine then has it.
+//! device. Its contract: the status says how the run ended. The lines of the input are carried out as they are taken;
+//! those that were are a run of the machine (`keel_machine`) from a store that was never opened, each reply prints
+//! the answer of its calls, and the output grew by just these lines. With 0 they are all lines of the input; with each
+//! other status the contract says which they are. The device is handed back as the machine then has it.
 //!
-//! A line is `open`, `put K V sync` or `get K`, with one space between words, and K and V of 1 to 64 letters and
-//! digits. An empty line says nothing.
+//! Where the device was at rest as it was handed in and no crash of the run left a forged image, the device handed back
+//! stands for the story of the run: behind any crash, an opening finds the first of the logged writes, with every
+//! acknowledged synced one. In the run itself each opening behind a crash finds just that.
 //!
-//! It stands on `keel_core`, the store, and runs it over `keel_simdisk`, a device in memory.
+//! The lines are `keel_lines`'s, their grammar and the replies `keel_script`'s. A command that isn't built yet is
+//! answered `not-built`. It stands on `keel_core`, the store, and runs it over `keel_simdisk`, a device in memory, or
+//! over a folder of the host, `keel_dirdisk`.
 #![tactic(auto)]
 
 mod answer;
@@ -22,7 +25,7 @@ mod top;
 
 pub use answer::{Answer, text_of};
 pub use driver::{Driven, Driver, carry_out};
-use keel_base::{ReadSource, WriteSink};
+use keel_base::{ReadSource, WriteSink, give_all};
 use keel_dirdisk::DirDisk;
 use keel_disk::Device;
 use keel_simdisk::SimDisk;
@@ -74,7 +77,11 @@ fn main(rt: HostRuntime) -> ExitCode {
     let status = match folder_of(&words) {
         Some(path) => match String::from_str(alloc, path.as_str()) {
             Ok(path) => run_over(&rt, &words, DirDisk::new(&rt, path, CAPACITY)),
-            Err(_) => 6,
+            Err(_) => {
+                let mut err = WriteSink::new(rt.stderr());
+                let _ = give_all(&mut err, b"out of memory\n");
+                6
+            }
         },
         None => run_over(&rt, &words, SimDisk::new(alloc, CAPACITY)),
     };
