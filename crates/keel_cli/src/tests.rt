@@ -1,9 +1,11 @@
 use crate::{Ended, run_words};
 use keel_base::{Bytes, Call, Calls, Fault, MemSink, MemSource};
+use keel_dirdisk::DirDisk;
 use keel_disk::{Device, Rule};
 use keel_simdisk::SimDisk;
 use std::alloc::Global;
 use std::test::Fail;
+use std::{env, fs};
 
 // Calls of which this one fails, counted from 0, or none.
 fn failing_call(alloc: Global, fails: Option<u64>) -> Result<Calls, Fail> {
@@ -258,5 +260,56 @@ fn an_opening_finds_a_prefix(rt: HostRuntime) -> Result<(), Fail> {
             }
         }
     }
+    Ok(())
+}
+
+// What a run over a folder writes, with so many bytes for it.
+fn run_over_folder(rt: &HostRuntime, path: &str, budget: u64, input: &[u8]) -> Result<Bytes, Fail> {
+    let alloc = rt.alloc();
+    let input = Bytes::from_slice(alloc, input).ok().ok_or("memory")?;
+    let source = MemSource::new(input, failing_call(alloc, None)?);
+    let out = MemSink::new(alloc, failing_call(alloc, None)?);
+    let err = MemSink::new(alloc, failing_call(alloc, None)?);
+    let words = words_of(alloc, &["dir", path])?;
+    let device = DirDisk::new(rt, String::from_str(alloc, path)?, budget);
+    let ended = run_words(alloc, &words, source, out, err, device);
+    let written = Bytes::from_slice(alloc, ended.out.held());
+    Ok(written.ok().ok_or("memory")?)
+}
+
+#[test]
+fn a_folder_survives_the_run(rt: HostRuntime) -> Result<(), Fail> {
+    let mut place = env::temp_dir(&rt)?;
+    place.push("keel_cli_test")?;
+    let _ = fs::remove_dir_all(&rt, place.as_str());
+    let path = String::from_str(rt.alloc(), place.as_str())?;
+    let written = run_over_folder(&rt, path.as_str(), 60, b"open\n")?;
+    assert_eq!(rt; written.as_slice(), b"refused device plain\n".as_slice());
+    fs::write(&rt, path.as_str(), "a file")?;
+    let written = run_over_folder(&rt, path.as_str(), 60, b"open\n")?;
+    assert_eq!(rt; written.as_slice(), b"refused device plain\n".as_slice());
+    fs::remove_file(&rt, path.as_str())?;
+    fs::create_dir(&rt, path.as_str())?;
+    place.push("notes.txt")?;
+    fs::write(&rt, place.as_str(), "kept")?;
+    let written = run_over_folder(
+        &rt,
+        path.as_str(),
+        60,
+        b"open\ndrain 100\nput a 1 sync\nget a\n",
+    )?;
+    let told = b"opened 0\nquiet\nok 1\nvalue 1\n";
+    assert_eq!(rt; written.as_slice(), told.as_slice());
+    let written = run_over_folder(
+        &rt,
+        path.as_str(),
+        60,
+        b"open\nget a\nput b 2\nput c 3\nfiles\ncrash 0 0 0 1\n",
+    )?;
+    let behind =
+        b"opened 1\nvalue 1\nok 2\nfailed wal no-space\nfile 000001.log 24\nfile 000002.log 24\nfiles 2\nnot-simulated\n";
+    assert_eq!(rt; written.as_slice(), behind.as_slice());
+    assert!(rt; fs::exists(&rt, place.as_str())?);
+    fs::remove_dir_all(&rt, path.as_str())?;
     Ok(())
 }
