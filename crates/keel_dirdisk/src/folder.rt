@@ -1,7 +1,7 @@
 // The calls of a device on a folder of the host, with the files that stay open.
-ghost use Rattle.std.specs.Prelude.{◌≡◌, ℕ, ◌<◌, ◌≤◌, ◌++◌, ◌∷◌, true, false, not, length, All, filter, OnOk, IfOk, IfSome, IsSomeAnd, slice_get, string_bytes, vec_len};
-ghost use Rattle.keel_base.specs.Name.{name_eq, printed};
-ghost use Rattle.keel_dirdisk.specs.Opened.{IsOpen, IsSynced};
+ghost use Rattle.std.specs.Prelude.{◌≡◌, ℕ, ◌<◌, ◌≤◌, ◌++◌, ◌∷◌, true, false, length, All, OnOk, IfOk, IfSome, IsSomeAnd, slice_get, string_bytes, vec_len};
+ghost use Rattle.keel_base.specs.Name.{printed};
+ghost use Rattle.keel_dirdisk.specs.Opened.{IsOpen, IsSynced, renamed, without};
 ghost use Rattle.keel_dirdisk.specs.Sorting.{AreNames};
 
 use crate::held::HeldFiles;
@@ -151,7 +151,9 @@ impl<'a, R: Files + AllocGlobal> Folder<'a, R> {
     }
 
     /// Gives a file another name, in place of a file that had it.
-    pub fn rename(&mut self, alloc: Global, from: FileName, to: FileName) -> Result<(), Stop> {
+    pub fn rename(&mut self, alloc: Global, from: FileName, to: FileName) -> Result<(), Stop>
+        ensures { OnOk result (self.new.held.files.items ≡ renamed from to self.old.held.files.items) }
+    {
         let source = self.path_of(alloc, from)?;
         let target = self.path_of(alloc, to)?;
         if let Err(stop) = rename_at(self.rt, source.as_str(), target.as_str()) {
@@ -166,7 +168,7 @@ impl<'a, R: Files + AllocGlobal> Folder<'a, R> {
 
     /// Takes a file away, where it is there.
     pub fn remove(&mut self, alloc: Global, name: FileName) -> Result<(), Stop>
-        ensures { OnOk result (self.new.held.files.items ≡ filter (λ held. not (name_eq held.name name)) self.old.held.files.items) }
+        ensures { OnOk result (self.new.held.files.items ≡ without name self.old.held.files.items) }
     {
         let path = self.path_of(alloc, name)?;
         self.held.close(name);

@@ -1,7 +1,7 @@
 // The files that stay open.
-ghost use Rattle.std.specs.Prelude.{◌≡◌, ◌<◌, [], ◌∷◌, ◌++◌, false, not, All, filter, OnOk, IfSome, IfNone, IsSomeAnd, slice_get, vec_len, vec_capacity};
+ghost use Rattle.std.specs.Prelude.{◌≡◌, ◌<◌, [], ◌∷◌, ◌++◌, false, take, All, filter, OnOk, IfSome, IfNone, IsSomeAnd, slice_get, vec_len, vec_capacity};
 ghost use Rattle.keel_base.specs.Name.{name_eq};
-ghost use Rattle.keel_dirdisk.specs.Opened.{IsOpen, is_unsettled};
+ghost use Rattle.keel_dirdisk.specs.Opened.{IsOpen, is_unsettled, renamed, with_name, without};
 
 use crate::stop::Stop;
 use keel_base::{FileName, OutOfMemory, same_name};
@@ -55,6 +55,7 @@ impl<F: Drop> HeldFiles<F> {
     // The place of a file, where it is open.
     fn position(&self, name: FileName) -> Option<usize>
         ensures found { IfSome result (IsOpen name self.now.files.items) }
+        ensures first { IfSome result (λ place. All (λ held. name_eq held.name name ≡ false) (take place self.now.files.items)) }
         ensures none { IfNone result (All (λ held. name_eq held.name name ≡ false) self.now.files.items) }
     {
         self.files
@@ -118,18 +119,27 @@ impl<F: Drop> HeldFiles<F> {
 
     /// Closes a file, where it is open.
     pub fn close(&mut self, name: FileName)
-        ensures files { self.new.files.items ≡ filter (λ held. not (name_eq held.name name)) self.old.files.items }
+        ensures files { self.new.files.items ≡ without name self.old.files.items }
         ensures room { vec_len self.old.files < vec_capacity self.old.files → vec_len self.new.files < vec_capacity self.new.files }
     {
         self.files.retain(|held| !same_name(held.name, name));
     }
 
     /// A file has another name from now on, in place of one that had it.
-    pub fn rename(&mut self, from: FileName, to: FileName) {
+    pub fn rename(&mut self, from: FileName, to: FileName)
+        ensures { self.new.files.items ≡ renamed from to self.old.files.items }
+    {
         if same_name(from, to) {
             return;
         }
         self.close(to);
+        self.give_name(from, to);
+    }
+
+    // A file has another name from now on.
+    fn give_name(&mut self, from: FileName, to: FileName)
+        ensures { self.new.files.items ≡ with_name from to self.old.files.items }
+    {
         if let Some(place) = self.position(from) {
             self.files[place].name = to;
         }
