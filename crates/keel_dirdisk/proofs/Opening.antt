@@ -1,5 +1,5 @@
 -- Open files that are closed.
-use Rattle.std.proofs.Common.{◌≡◌, ℕ, zero, suc, ◌<◌, Bool, false, List, [], ◌∷◌, All, length, take, get_or, cond, refl, ap, arith}
+use Rattle.std.proofs.Common.{◌≡◌, ℕ, zero, suc, Bool, false, List, [], ◌∷◌, All, take, get_or, cond, refl, ap, arith}
 use Rattle.std.specs.Prelude.{IsSomeAnd}
 use Rattle.std.specs.List.{filter, remove, slice_get, slice_set}
 use Rattle.std.proofs.lemmas.List.Elements.{All-tail}

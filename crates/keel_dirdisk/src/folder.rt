@@ -3,6 +3,7 @@ ghost use Rattle.std.specs.Prelude.{◌≡◌, ℕ, ◌<◌, ◌≤◌, ◌++◌
 ghost use Rattle.keel_base.specs.Name.{printed};
 ghost use Rattle.keel_dirdisk.specs.Opened.{IsOpen, IsSynced, renamed, without};
 ghost use Rattle.keel_dirdisk.specs.Sorting.{AreNames};
+ghost use Rattle.keel_dirdisk.specs.Taking.{TakesFirst};
 
 use crate::held::HeldFiles;
 use crate::host::{make_at, open_at, remove_at, rename_at, size_at};
@@ -13,11 +14,28 @@ use keel_base::{Bytes, FileName};
 use keel_name::print;
 use std::alloc::Global;
 use std::fs::{self, OpenFile};
-use std::io::{Read, Seek, SeekFrom, Write};
+use std::io::{Read, Seek, SeekFrom};
 use std::rt::Files;
 
 // How many bytes of a file are read at once.
 const PIECE: usize = 4096;
+
+// Reads what is left of a file, or so many bytes of it.
+fn take_some<F: Read>(alloc: Global, file: &mut F, most: usize) -> Result<Bytes, Stop>
+    ensures { IfOk result (TakesFirst (F.remaining file.old) (F.remaining file.new) most) }
+{
+    let mut bytes = Bytes::new(alloc);
+    let mut buffer = [0; PIECE];
+    'reading: while bytes.len() < most {
+        let room = (most - bytes.len()).min(PIECE);
+        let count = file.read(&mut buffer[..room])?;
+        if count == 0 {
+            return Ok(bytes);
+        }
+        bytes.extend(&buffer[..count])?;
+    }
+    Ok(bytes)
+}
 
 // Reads a file from a place on, to its end or so many bytes.
 fn read_from<F: Read + Seek>(
@@ -28,22 +46,12 @@ fn read_from<F: Read + Seek>(
 ) -> Result<Bytes, Stop>
     ensures { IfOk result (λ bytes. length bytes ≤ most) }
 {
-    let mut bytes = Bytes::new(alloc);
     // No file is that long, and the host takes no such place.
     if place > i64::MAX as u64 {
-        return Ok(bytes);
+        return Ok(Bytes::new(alloc));
     }
     file.seek(SeekFrom::Start(place))?;
-    let mut buffer = [0; PIECE];
-    'reading: while bytes.len() < most {
-        let room = (most - bytes.len()).min(PIECE);
-        let count = file.read(&mut buffer[..room])?;
-        if count == 0 {
-            break;
-        }
-        bytes.extend(&buffer[..count])?;
-    }
-    Ok(bytes)
+    take_some(alloc, file, most)
 }
 
 /// A folder, of which nothing is opened before it is needed.
@@ -132,9 +140,7 @@ impl<'a, R: Files + AllocGlobal> Folder<'a, R> {
         ensures { IsSomeAnd (slice_get self.new.held.files.items place) (λ held. held.unsynced ≡ true) }
     {
         let held = &mut self.held.files[place];
-        held.unsynced = true;
-        held.file.write_all(bytes)?;
-        Ok(())
+        held.append(bytes)
     }
 
     /// Makes the bytes of a file durable, by the descriptor that took them.

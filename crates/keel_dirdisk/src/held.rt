@@ -1,5 +1,6 @@
 // The files that stay open.
-ghost use Rattle.std.specs.Prelude.{◌≡◌, ◌<◌, [], ◌∷◌, ◌++◌, false, take, All, filter, OnOk, IfSome, IfNone, IsSomeAnd, slice_get, vec_len, vec_capacity};
+ghost use Rattle.std.specs.Prelude.{◌≡◌, ◌<◌, [], ◌∷◌, ◌++◌, true, false, take, All, filter, OnOk, IfSome, IfNone, IsSomeAnd, slice_get, vec_len, vec_capacity};
+ghost use Rattle.std.specs.Io.KnownBytes.{Appends};
 ghost use Rattle.keel_base.specs.Name.{name_eq};
 ghost use Rattle.keel_dirdisk.specs.Opened.{IsOpen, is_unsettled, renamed, with_name, without};
 
@@ -7,6 +8,7 @@ use crate::stop::Stop;
 use keel_base::{FileName, OutOfMemory, same_name};
 use std::alloc::Global;
 use std::fs::OpenFile;
+use std::io::Write;
 
 // How many files stay open, but for those that can't be closed yet.
 const MOST_OPEN: usize = 16;
@@ -23,6 +25,19 @@ pub struct Held<F: Drop> {
 }
 
 impl<F: Drop> Held<F> {
+    /// Adds bytes at the end. Behind a failure some first ones of them may be there.
+    pub fn append(&mut self, bytes: &[u8]) -> Result<(), Stop>
+    where
+        F: Write,
+        ensures written { OnOk result (Appends (F.contents self.old.file) (F.contents self.new.file) bytes.now) }
+        ensures unsynced { self.new.unsynced ≡ true }
+        ensures name { self.new.name ≡ self.old.name }
+    {
+        self.unsynced = true;
+        self.file.write_all(bytes)?;
+        Ok(())
+    }
+
     // Makes a cut firm.
     fn sync_cut(&mut self) -> Result<(), Stop>
     where
