@@ -1,5 +1,6 @@
 // The calls of a device on a folder of the host, with the files that stay open.
 ghost use Rattle.std.specs.Prelude.{◌≡◌, ℕ, ◌<◌, ◌≤◌, ◌++◌, ◌∷◌, true, false, length, All, OnOk, IfOk, IfSome, IsSomeAnd, slice_get, string_bytes, vec_len};
+ghost use Rattle.std.specs.Io.KnownBytes.{Appends};
 ghost use Rattle.keel_base.specs.Name.{printed};
 ghost use Rattle.keel_dirdisk.specs.Opened.{IsOpen, IsSynced, renamed, without};
 ghost use Rattle.keel_dirdisk.specs.Sorting.{AreNames};
@@ -137,7 +138,8 @@ impl<'a, R: Files + AllocGlobal> Folder<'a, R> {
     /// Adds bytes at the end of an open file. Behind a failure some first ones of them may be there.
     pub fn append(&mut self, place: usize, bytes: &[u8]) -> Result<(), Stop>
         requires { place < vec_len self.old.held.files }
-        ensures { IsSomeAnd (slice_get self.new.held.files.items place) (λ held. held.unsynced ≡ true) }
+        ensures unsynced { IsSomeAnd (slice_get self.new.held.files.items place) (λ held. held.unsynced ≡ true) }
+        ensures written { OnOk result (IfSome (slice_get self.old.held.files.items place) (λ before. IfSome (slice_get self.new.held.files.items place) (λ after. Appends (R.File.contents before.file) (R.File.contents after.file) bytes.now))) }
     {
         let held = &mut self.held.files[place];
         held.append(bytes)
