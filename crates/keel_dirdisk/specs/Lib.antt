@@ -3,3 +3,4 @@ pub mod Spending
 pub mod Sorting
 pub mod Shown
 pub mod Opened
+pub mod Taking

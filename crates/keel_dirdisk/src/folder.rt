@@ -1,8 +1,10 @@
 // The calls of a device on a folder of the host, with the files that stay open.
-ghost use Rattle.std.specs.Prelude.{◌≡◌, ℕ, ◌<◌, ◌≤◌, ◌++◌, ◌∷◌, true, false, not, length, All, filter, OnOk, IfOk, IfSome, IsSomeAnd, slice_get, string_bytes, vec_len};
-ghost use Rattle.keel_base.specs.Name.{name_eq, printed};
-ghost use Rattle.keel_dirdisk.specs.Opened.{IsOpen, IsSynced};
+ghost use Rattle.std.specs.Prelude.{◌≡◌, ℕ, ◌<◌, ◌≤◌, ◌++◌, ◌∷◌, true, false, length, All, OnOk, IfOk, IfSome, IsSomeAnd, slice_get, string_bytes, vec_len};
+ghost use Rattle.std.specs.Io.KnownBytes.{Appends};
+ghost use Rattle.keel_base.specs.Name.{printed};
+ghost use Rattle.keel_dirdisk.specs.Opened.{IsOpen, IsSynced, renamed, without};
 ghost use Rattle.keel_dirdisk.specs.Sorting.{AreNames};
+ghost use Rattle.keel_dirdisk.specs.Taking.{TakesFirst};
 
 use crate::held::HeldFiles;
 use crate::host::{make_at, open_at, remove_at, rename_at, size_at};
@@ -13,11 +15,28 @@ use keel_base::{Bytes, FileName};
 use keel_name::print;
 use std::alloc::Global;
 use std::fs::{self, OpenFile};
-use std::io::{Read, Seek, SeekFrom, Write};
+use std::io::{Read, Seek, SeekFrom};
 use std::rt::Files;
 
 // How many bytes of a file are read at once.
 const PIECE: usize = 4096;
+
+// Reads what is left of a file, or so many bytes of it.
+fn take_some<F: Read>(alloc: Global, file: &mut F, most: usize) -> Result<Bytes, Stop>
+    ensures { IfOk result (TakesFirst (F.remaining file.old) (F.remaining file.new) most) }
+{
+    let mut bytes = Bytes::new(alloc);
+    let mut buffer = [0; PIECE];
+    'reading: while bytes.len() < most {
+        let room = (most - bytes.len()).min(PIECE);
+        let count = file.read(&mut buffer[..room])?;
+        if count == 0 {
+            return Ok(bytes);
+        }
+        bytes.extend(&buffer[..count])?;
+    }
+    Ok(bytes)
+}
 
 // Reads a file from a place on, to its end or so many bytes.
 fn read_from<F: Read + Seek>(
@@ -28,22 +47,12 @@ fn read_from<F: Read + Seek>(
 ) -> Result<Bytes, Stop>
     ensures { IfOk result (λ bytes. length bytes ≤ most) }
 {
-    let mut bytes = Bytes::new(alloc);
     // No file is that long, and the host takes no such place.
     if place > i64::MAX as u64 {
-        return Ok(bytes);
+        return Ok(Bytes::new(alloc));
     }
     file.seek(SeekFrom::Start(place))?;
-    let mut buffer = [0; PIECE];
-    'reading: while bytes.len() < most {
-        let room = (most - bytes.len()).min(PIECE);
-        let count = file.read(&mut buffer[..room])?;
-        if count == 0 {
-            break;
-        }
-        bytes.extend(&buffer[..count])?;
-    }
-    Ok(bytes)
+    take_some(alloc, file, most)
 }
 
 /// A folder, of which nothing is opened before it is needed.
@@ -129,12 +138,11 @@ impl<'a, R: Files + AllocGlobal> Folder<'a, R> {
     /// Adds bytes at the end of an open file. Behind a failure some first ones of them may be there.
     pub fn append(&mut self, place: usize, bytes: &[u8]) -> Result<(), Stop>
         requires { place < vec_len self.old.held.files }
-        ensures { IsSomeAnd (slice_get self.new.held.files.items place) (λ held. held.unsynced ≡ true) }
+        ensures unsynced { IsSomeAnd (slice_get self.new.held.files.items place) (λ held. held.unsynced ≡ true) }
+        ensures written { OnOk result (IfSome (slice_get self.old.held.files.items place) (λ before. IfSome (slice_get self.new.held.files.items place) (λ after. Appends (R.File.contents before.file) (R.File.contents after.file) bytes.now))) }
     {
         let held = &mut self.held.files[place];
-        held.unsynced = true;
-        held.file.write_all(bytes)?;
-        Ok(())
+        held.append(bytes)
     }
 
     /// Makes the bytes of a file durable, by the descriptor that took them.
@@ -151,7 +159,9 @@ impl<'a, R: Files + AllocGlobal> Folder<'a, R> {
     }
 
     /// Gives a file another name, in place of a file that had it.
-    pub fn rename(&mut self, alloc: Global, from: FileName, to: FileName) -> Result<(), Stop> {
+    pub fn rename(&mut self, alloc: Global, from: FileName, to: FileName) -> Result<(), Stop>
+        ensures { OnOk result (self.new.held.files.items ≡ renamed from to self.old.held.files.items) }
+    {
         let source = self.path_of(alloc, from)?;
         let target = self.path_of(alloc, to)?;
         if let Err(stop) = rename_at(self.rt, source.as_str(), target.as_str()) {
@@ -166,7 +176,7 @@ impl<'a, R: Files + AllocGlobal> Folder<'a, R> {
 
     /// Takes a file away, where it is there.
     pub fn remove(&mut self, alloc: Global, name: FileName) -> Result<(), Stop>
-        ensures { OnOk result (self.new.held.files.items ≡ filter (λ held. not (name_eq held.name name)) self.old.held.files.items) }
+        ensures { OnOk result (self.new.held.files.items ≡ without name self.old.held.files.items) }
     {
         let path = self.path_of(alloc, name)?;
         self.held.close(name);

@@ -1,12 +1,14 @@
 // The files that stay open.
-ghost use Rattle.std.specs.Prelude.{◌≡◌, ◌<◌, [], ◌∷◌, ◌++◌, false, not, All, filter, OnOk, IfSome, IfNone, IsSomeAnd, slice_get, vec_len, vec_capacity};
+ghost use Rattle.std.specs.Prelude.{◌≡◌, ◌<◌, [], ◌∷◌, ◌++◌, true, false, take, All, filter, OnOk, IfSome, IfNone, IsSomeAnd, slice_get, vec_len, vec_capacity};
+ghost use Rattle.std.specs.Io.KnownBytes.{Appends};
 ghost use Rattle.keel_base.specs.Name.{name_eq};
-ghost use Rattle.keel_dirdisk.specs.Opened.{IsOpen, is_unsettled};
+ghost use Rattle.keel_dirdisk.specs.Opened.{IsOpen, is_unsettled, renamed, with_name, without};
 
 use crate::stop::Stop;
 use keel_base::{FileName, OutOfMemory, same_name};
 use std::alloc::Global;
 use std::fs::OpenFile;
+use std::io::Write;
 
 // How many files stay open, but for those that can't be closed yet.
 const MOST_OPEN: usize = 16;
@@ -23,6 +25,19 @@ pub struct Held<F: Drop> {
 }
 
 impl<F: Drop> Held<F> {
+    /// Adds bytes at the end. Behind a failure some first ones of them may be there.
+    pub fn append(&mut self, bytes: &[u8]) -> Result<(), Stop>
+    where
+        F: Write,
+        ensures written { OnOk result (Appends (F.contents self.old.file) (F.contents self.new.file) bytes.now) }
+        ensures unsynced { self.new.unsynced ≡ true }
+        ensures name { self.new.name ≡ self.old.name }
+    {
+        self.unsynced = true;
+        self.file.write_all(bytes)?;
+        Ok(())
+    }
+
     // Makes a cut firm.
     fn sync_cut(&mut self) -> Result<(), Stop>
     where
@@ -55,6 +70,7 @@ impl<F: Drop> HeldFiles<F> {
     // The place of a file, where it is open.
     fn position(&self, name: FileName) -> Option<usize>
         ensures found { IfSome result (IsOpen name self.now.files.items) }
+        ensures first { IfSome result (λ place. All (λ held. name_eq held.name name ≡ false) (take place self.now.files.items)) }
         ensures none { IfNone result (All (λ held. name_eq held.name name ≡ false) self.now.files.items) }
     {
         self.files
@@ -118,18 +134,27 @@ impl<F: Drop> HeldFiles<F> {
 
     /// Closes a file, where it is open.
     pub fn close(&mut self, name: FileName)
-        ensures files { self.new.files.items ≡ filter (λ held. not (name_eq held.name name)) self.old.files.items }
+        ensures files { self.new.files.items ≡ without name self.old.files.items }
         ensures room { vec_len self.old.files < vec_capacity self.old.files → vec_len self.new.files < vec_capacity self.new.files }
     {
         self.files.retain(|held| !same_name(held.name, name));
     }
 
     /// A file has another name from now on, in place of one that had it.
-    pub fn rename(&mut self, from: FileName, to: FileName) {
+    pub fn rename(&mut self, from: FileName, to: FileName)
+        ensures { self.new.files.items ≡ renamed from to self.old.files.items }
+    {
         if same_name(from, to) {
             return;
         }
         self.close(to);
+        self.give_name(from, to);
+    }
+
+    // A file has another name from now on.
+    fn give_name(&mut self, from: FileName, to: FileName)
+        ensures { self.new.files.items ≡ with_name from to self.old.files.items }
+    {
         if let Some(place) = self.position(from) {
             self.files[place].name = to;
         }
