@@ -2,7 +2,7 @@ use crate::DirDisk;
 use keel_base::{Fault, FileName};
 use keel_disk::{Device, Disk, DiskError, Pick, ReadError, Rule};
 use std::test::Fail;
-use std::{env, fs};
+use std::{env, fs, process};
 
 const LOG: FileName = FileName::Log(1);
 
@@ -13,8 +13,8 @@ const TABLE: FileName = FileName::Table(2);
 fn a_folder_keeps_what_was_synced(rt: HostRuntime) -> Result<(), Fail> {
     let alloc = rt.alloc();
     let mut place = env::temp_dir(&rt)?;
-    place.push("keel_dirdisk_test")?;
-    let _ = fs::remove_dir_all(&rt, place.as_str());
+    let own = format!(in alloc; "keel_dirdisk_{}", process::id(rt.process()))?;
+    place.push(own.as_str())?;
     fs::create_dir(&rt, place.as_str())?;
     let path = String::from_str(alloc, place.as_str())?;
     let mut disk = DirDisk::new(&rt, path.clone()?, 10);
