@@ -19,8 +19,11 @@ use std::alloc::Global;
 /// Why a run stops at a line.
 #[derive(Clone, Copy, Debug, PartialEq, Eq)]
 pub enum LineStop {
+    /// It is no command.
     Refused,
+    /// Its replies weren't written, or in part.
     Unwritten,
+    /// Memory ended at it.
     NoMemory,
 }
 

@@ -4,8 +4,9 @@ use keel_dirdisk::DirDisk;
 use keel_disk::{Device, Rule};
 use keel_simdisk::SimDisk;
 use std::alloc::Global;
+use std::process::Abort;
 use std::test::Fail;
-use std::{env, fs};
+use std::{env, fs, process};
 
 // Calls of which this one fails, counted from 0, or none.
 fn failing_call(alloc: Global, fails: Option<u64>) -> Result<Calls, Fail> {
@@ -105,96 +106,123 @@ fn run_row(
     Ok(run_words(alloc, &words, source, out, err, device))
 }
 
+// Runs to the end of a workload, and the output of each.
+const ANSWERED: [(&[u8], &[u8]); 13] = [
+    (
+        b"open\nput a 1 sync\nget a\nopen\n",
+        b"opened 0\nok 1\nvalue 1\nis-open\n",
+    ),
+    (b"get a", b"not-open\n"),
+    (b"", b""),
+    // Crashes.
+    (
+        b"open\nput a 1 sync\nput b 2\ncrash 0 0 0 1\nopen\nget a\nget b\n",
+        b"opened 0\nok 1\nok 2\ncrashed\nopened 1\nvalue 1\nabsent\n",
+    ),
+    (
+        b"open\nput a 1 sync\nput b 2\ncrash 0 3 0 1\nopen\nget a\nget b\n",
+        b"opened 0\nok 1\nok 2\ncrashed\nopened 1\nvalue 1\nabsent\n",
+    ),
+    (
+        b"open\nput a 1 sync\nput b 2\nput c 3\ncrash 0 24 24 100\nopen\nget b\nget c\n",
+        b"opened 0\nok 1\nok 2\nok 3\ncrashed\nopened 2\nvalue 2\nabsent\n",
+    ),
+    (
+        b"open\ncrash 0 0 0 1\nopen\nput a 1\n",
+        b"opened 0\ncrashed\nopened 0\nok 1\n",
+    ),
+    // The language.
+    (
+        b"open\ndrain 100\nput %4a 1\nget J\ndel J\nget J\ndrain 0\n",
+        b"opened 0\nquiet\nok 1\nvalue 1\nok 2\nabsent\nmore\n",
+    ),
+    (
+        b"tick 18446744073709551615\ntick 1\n",
+        b"now 18446744073709551615\nnow 18446744073709551615\n",
+    ),
+    (
+        b"option limit 1152921504606846977\noption limit 5\nopen\noption limit 5\nflush\n",
+        b"bad-option limit 0 1152921504606846976\noption limit 5\nopened 0\nis-open\nnot-built\n",
+    ),
+    (
+        b"open\nput a 1 sync\nfiles\nput % 1\nput b 2\ncrash 9 99 0 1\nfiles\n",
+        b"opened 0\nok 1\nfile 000001.log 24\nfiles 1\nbad-size key 0\nok 2\ncrashed\nfile 000001.log 48\nfiles 1\n",
+    ),
+    (
+        b"open\nput a 1\nput b 2\ncrash 9 99 0 1\nopen\nput c 3\nfiles\n",
+        b"opened 0\nok 1\nok 2\ncrashed\nopened 2\nok 3\nfile 000001.log 48\nfile 000002.log 24\nfiles 2\n",
+    ),
+    (b"# a comment\n   \n\n  open  \n", b"opened 0\n"),
+];
+
+// Runs that stop at a line: the output, and the text that names it.
+const REFUSED: [(&[u8], &[u8], &[u8]); 4] = [
+    (b"open\nput a\n", b"opened 0\n", b"line 2: not a command\n"),
+    (b"tick +1\n", b"", b"line 1: not a command\n"),
+    (b"\ntick 01\n", b"", b"line 2: not a command\n"),
+    (&[b'#'; 8193], b"", b"line 1: longer than 8192 bytes\n"),
+];
+
+// Runs the row, and compares how it ends.
+fn check<R: Abort + AllocGlobal>(rt: &R, row: &Row<'_>) -> Result<(), Fail> {
+    let ended = run_row(rt.alloc(), row)?;
+    assert_eq!(rt; ended.status, row.status);
+    assert_eq!(rt; ended.out.held(), row.out);
+    assert_eq!(rt; ended.err.held(), row.err);
+    Ok(())
+}
+
 #[test]
-fn runs_end_as_they_must(rt: HostRuntime) -> Result<(), Fail> {
+fn workloads_are_answered(rt: HostRuntime) -> Result<(), Fail> {
+    for (input, out) in ANSWERED {
+        check(&rt, &run(input, out))?;
+    }
+    for (input, out, err) in REFUSED {
+        check(&rt, &run_refused(input, out, err))?;
+    }
+    Ok(())
+}
+
+#[test]
+fn a_failing_call_is_answered(rt: HostRuntime) -> Result<(), Fail> {
     let two_puts = b"open\nput a 1 sync\nput b 2 sync\nget a\n";
     let stopped = b"opened 0\nfailed wal retryable\nstopped wal retryable\nabsent\n";
-    let rows = [
-        run(
-            b"open\nput a 1 sync\nget a\nopen\n",
-            b"opened 0\nok 1\nvalue 1\nis-open\n",
-        ),
-        run(b"get a", b"not-open\n"),
-        run(b"", b""),
-        run_failing(Call::Create, two_puts, stopped),
-        run_failing(Call::SyncDir, two_puts, stopped),
-        run_failing(Call::Append, two_puts, stopped),
-        run_failing(Call::Sync, two_puts, stopped),
-        run_failing(
-            Call::Read,
-            b"open\nopen\n",
-            b"refused device retryable\nopened 0\n",
-        ),
-        // Crashes.
-        run(
-            b"open\nput a 1 sync\nput b 2\ncrash 0 0 0 1\nopen\nget a\nget b\n",
-            b"opened 0\nok 1\nok 2\ncrashed\nopened 1\nvalue 1\nabsent\n",
-        ),
-        run(
-            b"open\nput a 1 sync\nput b 2\ncrash 0 3 0 1\nopen\nget a\nget b\n",
-            b"opened 0\nok 1\nok 2\ncrashed\nopened 1\nvalue 1\nabsent\n",
-        ),
-        run(
-            b"open\nput a 1 sync\nput b 2\nput c 3\ncrash 0 24 24 100\nopen\nget b\nget c\n",
-            b"opened 0\nok 1\nok 2\nok 3\ncrashed\nopened 2\nvalue 2\nabsent\n",
-        ),
-        run(
-            b"open\ncrash 0 0 0 1\nopen\nput a 1\n",
-            b"opened 0\ncrashed\nopened 0\nok 1\n",
-        ),
-        // The language.
-        run(
-            b"open\ndrain 100\nput %4a 1\nget J\ndel J\nget J\ndrain 0\n",
-            b"opened 0\nquiet\nok 1\nvalue 1\nok 2\nabsent\nmore\n",
-        ),
-        run(
-            b"tick 18446744073709551615\ntick 1\n",
-            b"now 18446744073709551615\nnow 18446744073709551615\n",
-        ),
-        run(
-            b"option limit 1152921504606846977\noption limit 5\nopen\noption limit 5\nflush\n",
-            b"bad-option limit 0 1152921504606846976\noption limit 5\nopened 0\nis-open\nnot-built\n",
-        ),
-        run(
-            b"open\nput a 1 sync\nfiles\nput % 1\nput b 2\ncrash 9 99 0 1\nfiles\nopen\nput c 3\nfiles\n",
-            b"opened 0\nok 1\nfile 000001.log 24\nfiles 1\nbad-size key 0\nok 2\ncrashed\nfile 000001.log 48\nfiles 1\nopened 2\nok 3\nfile 000001.log 48\nfile 000002.log 24\nfiles 2\n",
-        ),
-        run(b"# a comment\n   \n\n  open  \n", b"opened 0\n"),
-        run_refused(b"open\nput a\n", b"opened 0\n", b"line 2: not a command\n"),
-        run_refused(&[b'#'; 8193], b"", b"line 1: longer than 8192 bytes\n"),
-        run_refused(b"tick +1\n", b"", b"line 1: not a command\n"),
-        run_refused(b"\ntick 01\n", b"", b"line 2: not a command\n"),
-        Row {
-            words: &[],
-            status: 2,
-            err: b"usage: keel run, dir PATH, gen SEED COUNT, check, threads CLIENTS OPS SEED\n",
-            ..run(b"open", b"")
-        },
-        Row {
-            read_fails: Some(0),
-            status: 4,
-            err: b"read fault\n",
-            ..run(b"open\n", b"")
-        },
-        // What was taken before a fault was carried out.
-        Row {
-            read_fails: Some(1),
-            status: 4,
-            err: b"read fault\n",
-            ..run(b"open\nget a", b"opened 0\n")
-        },
-        Row {
-            write_fails: Some(0),
-            status: 5,
-            err: b"write fault\n",
-            ..run(b"open", b"")
-        },
-    ];
-    for row in &rows {
-        let ended = run_row(rt.alloc(), row)?;
-        assert_eq!(rt; ended.status, row.status);
-        assert_eq!(rt; ended.out.held(), row.out);
-        assert_eq!(rt; ended.err.held(), row.err);
+    for call in [Call::Create, Call::SyncDir, Call::Append, Call::Sync] {
+        check(&rt, &run_failing(call, two_puts, stopped))?;
+    }
+    let refused = b"refused device retryable\nopened 0\n";
+    check(&rt, &run_failing(Call::Read, b"open\nopen\n", refused))
+}
+
+#[test]
+fn runs_end_as_they_must(rt: HostRuntime) -> Result<(), Fail> {
+    let usage = Row {
+        words: &[],
+        status: 2,
+        err: b"usage: keel run, dir PATH, gen SEED COUNT, check, threads CLIENTS OPS SEED\n",
+        ..run(b"open", b"")
+    };
+    let first_read_fails = Row {
+        read_fails: Some(0),
+        status: 4,
+        err: b"read fault\n",
+        ..run(b"open\n", b"")
+    };
+    // What was taken before a fault was carried out.
+    let second_read_fails = Row {
+        read_fails: Some(1),
+        input: b"open\nget a",
+        out: b"opened 0\n",
+        ..first_read_fails
+    };
+    let write_fails = Row {
+        write_fails: Some(0),
+        status: 5,
+        err: b"write fault\n",
+        ..run(b"open", b"")
+    };
+    for row in [usage, first_read_fails, second_read_fails, write_fails] {
+        check(&rt, &row)?;
     }
     Ok(())
 }
@@ -256,7 +284,7 @@ fn an_opening_finds_a_prefix(rt: HostRuntime) -> Result<(), Fail> {
                     _ => 3,
                 };
                 let fits = (least..=failed).any(|seq| found.get(seq) == Some(&line));
-                assert_eq!(rt; fits, true);
+                assert!(rt; fits);
             }
         }
     }
@@ -280,8 +308,8 @@ fn run_over_folder(rt: &HostRuntime, path: &str, budget: u64, input: &[u8]) -> R
 #[test]
 fn a_folder_survives_the_run(rt: HostRuntime) -> Result<(), Fail> {
     let mut place = env::temp_dir(&rt)?;
-    place.push("keel_cli_test")?;
-    let _ = fs::remove_dir_all(&rt, place.as_str());
+    let own = format!(in rt.alloc(); "keel_cli_{}", process::id(rt.process()))?;
+    place.push(own.as_str())?;
     let path = String::from_str(rt.alloc(), place.as_str())?;
     let written = run_over_folder(&rt, path.as_str(), 60, b"open\n")?;
     assert_eq!(rt; written.as_slice(), b"refused device plain\n".as_slice());

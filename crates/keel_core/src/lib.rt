@@ -25,3 +25,6 @@ mod writing;
 pub use opening::Refused;
 pub use store::Core;
 pub use trail::Trail;
+
+#[cfg(test)]
+mod tests;

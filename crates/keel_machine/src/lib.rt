@@ -13,3 +13,6 @@ mod steps;
 
 pub use answers::{Admit, Got, Outcome, Part};
 pub use steps::WriteStep;
+
+#[cfg(test)]
+mod tests;

@@ -1,0 +1,79 @@
+use crate::Core;
+use keel_base::{Batch, Bytes, Call, FileName, Op, Ops};
+use keel_disk::Rule;
+use keel_machine::{Admit, Got, Outcome, WriteStep};
+use keel_simdisk::SimDisk;
+use std::alloc::Global;
+use std::test::Fail;
+
+const CAPACITY: u64 = 1_048_576;
+
+// The batch of one synced put.
+fn put(alloc: Global, key: &[u8], value: &[u8]) -> Result<Batch, Fail> {
+    let key = Bytes::from_slice(alloc, key).ok().ok_or("memory")?;
+    let value = Bytes::from_slice(alloc, value).ok().ok_or("memory")?;
+    let mut ops = Ops::new(alloc);
+    ops.push(Op::Put { key, value }).ok().ok_or("memory")?;
+    Ok(Batch { ops, sync: true })
+}
+
+fn open(alloc: Global, disk: SimDisk) -> Result<Core<SimDisk>, Fail> {
+    let core = Core::open(alloc, disk)
+        .ok()
+        .ok_or("the opening is refused")?;
+    Ok(core)
+}
+
+// Whether a key has this value.
+fn has(alloc: Global, core: &mut Core<SimDisk>, key: &[u8], value: &[u8]) -> bool {
+    match core.get(alloc, key) {
+        Got::Value(found) => found.as_slice() == value,
+        Got::Absent | Got::OutOfMemory => false,
+    }
+}
+
+/// A synced put call by call, and what the next opening finds.
+#[test]
+fn a_put_goes_through_its_calls(rt: HostRuntime) -> Result<(), Fail> {
+    let alloc = rt.alloc();
+    let mut core = open(alloc, SimDisk::new(alloc, CAPACITY))?;
+    assert!(rt; core.simulated());
+    assert!(rt; core.arrange(alloc, Rule::Capacity(CAPACITY)) == Ok(true));
+    let admitted = core.admit(put(alloc, b"a", b"1")?);
+    assert!(rt; matches!(admitted, Admit::Queued { ticket: 1 }));
+    assert!(rt; matches!(core.take_outcome(1), Outcome::Waiting));
+    for call in [Call::Create, Call::SyncDir, Call::Append] {
+        let step = core.write_step(alloc, None);
+        assert!(rt; matches!(step, WriteStep::Moved { job: 1, call: made } if made == call));
+    }
+    let last = core.write_step(alloc, None);
+    assert!(rt;
+        matches!(
+            last,
+            WriteStep::Done {
+                job: 1,
+                seq: 1,
+                batches: 1
+            }
+        )
+    );
+    assert!(rt; matches!(core.write_step(alloc, None), WriteStep::Idle));
+    assert!(rt; matches!(core.take_outcome(1), Outcome::Done { seq: 1 }));
+    assert!(rt; matches!(core.take_outcome(1), Outcome::Unknown));
+    assert!(rt; has(alloc, &mut core, b"a", b"1"));
+    assert!(rt; matches!(core.get(alloc, b"b"), Got::Absent));
+    let trail = core.trail();
+    assert_eq!(rt; trail.read().len(), 0);
+    assert_eq!(rt; trail.log().len(), 1);
+    assert_eq!(rt; trail.limbo().len(), 0);
+    assert_eq!(rt; trail.floor(), 1);
+    let files = core.list(alloc).ok().ok_or("the directory isn't listed")?;
+    assert_eq!(rt; files.len(), 1);
+    assert_eq!(rt; files.as_slice()[0].name, FileName::Log(1));
+    assert_eq!(rt; files.as_slice()[0].size, 24);
+    let mut again = open(alloc, core.finish())?;
+    assert_eq!(rt; again.last_seq(), 1);
+    assert_eq!(rt; again.trail().read().len(), 1);
+    assert!(rt; has(alloc, &mut again, b"a", b"1"));
+    Ok(())
+}

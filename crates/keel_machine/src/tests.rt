@@ -1,0 +1,9 @@
+use crate::laws;
+
+#[test]
+fn the_laws_hold() {
+    laws::one_call_a_step();
+    laws::failure_stops();
+    laws::first_put();
+    laws::second_put();
+}
