@@ -17,7 +17,8 @@ use Rattle.keel_recovery.specs.Batches.{AreBatches}
 use Rattle.keel_recovery.specs.Covering.{Stage, NoLog, Created, Ready, Stopped, Trail, no_trail, Untouched, NameWaits, NameFirm, HoldsTrail, AtStage, Kept, Fits, Covered}
 use Rattle.keel_recovery.specs.Standing.{ReadsIn, Stands}
 use Rattle.keel_recovery.proofs.Holding.{untouched_image, untouched_read, firm_image_is, firm_read, waits_image, waits_read}
-use Rattle.keel_recovery.proofs.MoreLogs.{nothing_said, reads_more}
+use Rattle.keel_reading.proofs.OneReading.{nothing_said}
+use Rattle.keel_recovery.proofs.MoreLogs.{reads_more}
 use Rattle.keel_recovery.proofs.Numbering.{folded_append}
 use Rattle.keel_recovery.proofs.TornLog.{SayFirst, torn_says}
 

@@ -13,7 +13,7 @@ use Rattle.keel_reading.specs.Reading.{ReadsBelow}
 use Rattle.keel_recovery.specs.Covering.{NoLog, Ready, Trail, no_trail, Covered}
 use Rattle.keel_recovery.specs.Worked.{two_puts, behind_one, behind_both, TwoPuts, first_bytes, FirstBatch}
 use Rattle.keel_recovery.proofs.Calls.{create_covers, sync_dir_covers, append_covers, sync_covers}
-use Rattle.keel_recovery.proofs.MoreLogs.{nothing_said}
+use Rattle.keel_reading.proofs.OneReading.{nothing_said}
 use Rattle.keel_recovery.proofs.Opened.{opened_covers, first_stands}
 
 by_count : (point : Point) (count : ℕ) → 1 ≤ count → count ≤ 2 → point ≡ fold_batches two_puts.start (take count (two_puts.log ++ two_puts.limbo)) → (point ≡ behind_one) ⊎ (point ≡ behind_both)

@@ -11,7 +11,7 @@ use Rattle.keel_recovery.specs.Crashing.{moved_story}
 use Rattle.keel_recovery.specs.Laws.{OpeningFindsPrefix, OpeningFindsPublished}
 use Rattle.keel_recovery.specs.Standing.{InPrefixes}
 use Rattle.keel_recovery.proofs.Crashed.{crash_leaves}
-use Rattle.keel_recovery.proofs.OneReading.{reads_once}
+use Rattle.keel_reading.proofs.OneReading.{reads_once}
 use Rattle.keel_recovery.proofs.Opened.{opened_covers}
 
 pub finds_prefix : OpeningFindsPrefix

@@ -1,5 +1,5 @@
 pub mod Numbering
-pub mod Tests
+pub mod FirstTests
 pub mod Sizes
 pub mod OneToOne
 pub mod MoreLogs

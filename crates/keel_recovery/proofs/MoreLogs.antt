@@ -1,5 +1,5 @@
 -- A directory's reading, where one later log is added.
-use Rattle.std.proofs.Common.{◌≡◌, ℕ, zero, suc, ◌+◌, ◌<◌, ◌≤◌, Bool, true, false, List, [], ◌∷◌, ◌++◌, Option, Some, None, unwrap_or, refl, sym, ap, subst, ◌∙◌, arith, if◌then◌else◌, eqb, eqb-true}
+use Rattle.std.proofs.Common.{◌≡◌, ℕ, zero, suc, ◌+◌, ◌<◌, ◌≤◌, Bool, true, false, List, [], ◌∷◌, ◌++◌, Option, Some, unwrap_or, refl, sym, ap, subst, ◌∙◌, arith, if◌then◌else◌, eqb, eqb-true}
 use Rattle.std.proofs.lemmas.List.{map-append}
 use Rattle.keel_base.specs.Points.{Point, origin, fold_batches}
 use Rattle.keel_base.specs.declared.file_name.FileName.{FileName}
@@ -9,9 +9,6 @@ use Rattle.keel_base.specs.Name.{name_eq}
 use Rattle.keel_base.proofs.Names.{name_eq-true}
 use Rattle.keel_disk.specs.Directory.{Named, find, unlinked, linked}
 use Rattle.keel_disk.proofs.Directories.{find-linked}
-use Rattle.keel_frag.specs.Reading.{IsWholeLog}
-use Rattle.keel_frag.specs.Writing.{records_bytes, records_at}
-use Rattle.keel_frag.proofs.Continuing.{making}
 use Rattle.keel_reading.specs.Logs.{Numbered, ops_of, Says, log_bytes, LogsSay, RunOn, count_ops}
 use Rattle.keel_reading.specs.Reading.{AreLogsBelow, ReadsBelow, Reads}
 use Rattle.keel_recovery.specs.Batches.{numbered}
@@ -61,14 +58,6 @@ says_others : (count log : ℕ) (bytes : List ℕ) (held : Named (List ℕ)) (ba
 says_others zero log bytes held batches within h = h
 says_others (suc count) log bytes held batches within h =
     (h.0, h.1, says_others count log bytes held h.0 (omega arith) h.2, subst (λ (b : List ℕ). Says b h.1) (sym (bytes_other count log bytes held (omega arith))) h.3, h.4)
-
-nothing_whole : IsWholeLog [] []
-unfolding records_bytes records_at
-nothing_whole = making []
-
--- no bytes say no batches
-pub nothing_said : Says [] []
-nothing_said = record { all = []; end = 0; records = (None, nothing_whole); each = refl }
 
 pub reads_more : (log : ℕ) (held : Named (List ℕ)) (base : Point) (bytes : List ℕ) (batches : List (List Op))
     → ReadsBelow log held base → Says bytes (numbered base.seq batches) → Reads (linked (Log log) bytes held) (fold_batches base batches)

@@ -1,42 +1,13 @@
--- A directory has one reading.
-use Rattle.std.proofs.Common.{◌≡◌, ℕ, zero, suc, ◌+◌, ◌≤◌, Bool, true, false, List, [], ◌∷◌, ◌++◌, length, Option, None, unwrap_or, Result, Ok, refl, sym, ap, subst, ◌∙◌, arith}
-use Rattle.std.proofs.lemmas.List.{append-nil}
-use Rattle.keel_base.specs.Points.{Point, origin, fold_batches}
-use Rattle.keel_base.specs.declared.file_name.FileName.{FileName}
-use Rattle.keel_base.specs.declared.file_name.FileName.TheVariants.{Log}
-use Rattle.keel_base.specs.Name.{name_eq}
-use Rattle.keel_base.proofs.Names.{name_eq-true}
-use Rattle.keel_disk.specs.Directory.{Named, find}
-use Rattle.keel_frag.specs.Pieces.{Progress}
-use Rattle.keel_frag.proofs.Fronts.{one_reading}
-use Rattle.keel_reading.specs.Logs.{Numbered, ops_of, batches_in, all_read, Says, log_bytes, LogsSay}
-use Rattle.keel_reading.specs.Reading.{AreLogsBelow, Reads}
-use Rattle.keel_recovery.proofs.MoreLogs.{nothing_said}
-
-abbrev Found : Type 0
-Found = Result Numbered ℕ
-
-first_same : (x y : Numbered) (xs ys : List Found) → Ok x ∷ xs ≡ Ok y ∷ ys → x ≡ y
-first_same x y xs ys e = cc
-
-rest_same : (x y : Found) (xs ys : List Found) → x ∷ xs ≡ y ∷ ys → xs ≡ ys
-rest_same x y xs ys e = cc
-
-same_read : (xs ys : List Numbered) → all_read xs ≡ all_read ys → xs ≡ ys
-same_read [] [] e = refl
-same_read [] (y ∷ ys) e = absurd (omega (arith, ap length e))
-same_read (x ∷ xs) [] e = absurd (omega (arith, ap length e))
-same_read (x ∷ xs) (y ∷ ys) e =
-    let first : x ≡ y = first_same x y (all_read xs) (all_read ys) e in
-    let later : xs ≡ ys = same_read xs ys (rest_same (Ok x) (Ok y) (all_read xs) (all_read ys) e) in
-    λ i. first i ∷ later i
+-- Bytes and logs say one list of batches.
+use Rattle.std.proofs.Common.{◌≡◌, ℕ, zero, suc, List, ◌++◌, sym, ap, ◌∙◌}
+use Rattle.keel_disk.specs.Directory.{Named}
+use Rattle.keel_reading.specs.Logs.{Numbered, batches_in, Says, log_bytes, LogsSay}
+use Rattle.keel_reading.proofs.OneReading.{read_once, records_once}
 
 pub said_once : (bytes : List ℕ) (xs ys : List Numbered) → Says bytes xs → Says bytes ys → xs ≡ ys
 said_once bytes xs ys a b =
-    let p : Progress = record { place = a.end; done = a.all; begun = a.records.0 } in
-    let q : Progress = record { place = b.end; done = b.all; begun = b.records.0 } in
-    let same : a.all ≡ b.all = ap (λ (r : Progress). r.done) (one_reading bytes p q a.records.1 b.records.1) in
-    same_read xs ys (sym a.each ∙ ap batches_in same ∙ b.each)
+    let same = records_once bytes a.all b.all a.end b.end a.records b.records in
+    read_once xs ys (sym a.each ∙ ap batches_in same ∙ b.each)
 
 pub logs_once : (bound : ℕ) (image : Named (List ℕ)) (xs ys : List Numbered) → LogsSay bound image xs → LogsSay bound image ys → xs ≡ ys
 logs_once zero image xs ys a b = a ∙ sym b
@@ -44,33 +15,3 @@ logs_once (suc bound) image xs ys a b =
     let front = logs_once bound image a.0 b.0 a.2 b.2 in
     let last = said_once (log_bytes bound image) a.1 b.1 a.3 b.3 in
     a.4 ∙ (λ i. front i ++ last i) ∙ sym b.4
-
-not_found : (bound number : ℕ) (image : Named (List ℕ)) → bound ≤ number → AreLogsBelow bound image → find (Log number) image ≡ None
-not_found bound number [] above h = refl
-not_found bound number ((FileName.Log m, bytes) ∷ rest) above h =
-    let later = not_found bound number rest above h.1 in
-    let apart : name_eq (Log m) (Log number) ≡ false = other (name_eq (Log m) (Log number)) refl in
-    rw apart later
-  where
-    other : (b : Bool) → name_eq (Log m) (Log number) ≡ b → b ≡ false
-    other true t = let e : Log m ≡ Log number = name_eq-true (Log m) (Log number) t in let n : m ≡ number = cc in absurd (omega (arith, h.0))
-    other false t = refl
-not_found bound number ((other, bytes) ∷ rest) above h = absurd h.0
-
-more_logs : (more bound : ℕ) (image : Named (List ℕ)) (batches : List Numbered) → AreLogsBelow bound image → LogsSay bound image batches → LogsSay (more + bound) image batches
-more_logs zero bound image batches logs h = let e : bound ≡ 0 + bound = omega arith in subst (λ (n : ℕ). LogsSay n image batches) e h
-more_logs (suc more) bound image batches logs h =
-    let none : find (Log (more + bound)) image ≡ None = not_found bound (more + bound) image (omega arith) logs in
-    let empty : log_bytes (more + bound) image ≡ [] = ap (λ (o : Option (List ℕ)). unwrap_or o []) none in
-    let later : LogsSay (suc (more + bound)) image batches =
-    (batches, [], more_logs more bound image batches logs h, subst (λ (b : List ℕ). Says b []) (sym empty) nothing_said, sym (append-nil batches)) in
-    let e : suc (more + bound) ≡ suc more + bound = omega arith in
-    subst (λ (n : ℕ). LogsSay n image batches) e later
-
-pub reads_once : (image : Named (List ℕ)) (p q : Point) → Reads image p → Reads image q → p ≡ q
-reads_once image p q (m, a) (n, b) =
-    let one : LogsSay (n + m) image a.batches = more_logs n m image a.batches a.logs a.say in
-    let sum : m + n ≡ n + m = omega arith in
-    let two : LogsSay (n + m) image b.batches = subst (λ (k : ℕ). LogsSay k image b.batches) sum (more_logs m n image b.batches b.logs b.say) in
-    let same : a.batches ≡ b.batches = logs_once (n + m) image a.batches b.batches one two in
-    sym a.point_is ∙ ap (λ (l : List Numbered). fold_batches origin (ops_of l)) same ∙ b.point_is

@@ -15,7 +15,7 @@ use Rattle.keel_reading.specs.Reading.{ReadsBelow, Reads}
 use Rattle.keel_recovery.specs.Covering.{NoLog, no_trail, AreHeld, Kept, Covered}
 use Rattle.keel_recovery.specs.Crashing.{IsAfterCrash}
 use Rattle.keel_recovery.specs.Standing.{ReadsIn, Stands}
-use Rattle.keel_recovery.proofs.OneReading.{reads_once}
+use Rattle.keel_reading.proofs.OneReading.{reads_once}
 
 firm_held : (files : List File) (bound : ℕ) (directory : Named ℕ) → AllFirm files directory → AreOwn bound directory → AreHeld files bound directory (bytes_read files directory)
 firm_held files bound [] firm own = tt

@@ -12,7 +12,7 @@ use Rattle.keel_machine.specs.declared.answers.Admit.TheVariants.{BadSize}
 use Rattle.keel_machine.specs.declared.answers.Part.TheVariants as part
 use Rattle.keel_machine.specs.Admission.{is_key_length, op_refusal, ops_refusal, weight_of, size_refusal}
 use Rattle.keel_machine.specs.Tests.{when}
-use Rattle.keel_recovery.proofs.Tests.{none_first, none_later, none_when}
+use Rattle.keel_recovery.proofs.FirstTests.{none_first, none_later, none_when}
 
 -- a batch of 1 to 1000 ops, with keys and values within their limits
 pub record IsWithinLimits (batch : Batch) : Type 0 where

@@ -40,10 +40,6 @@ OpeningCovers =
 abbrev pub FirstOpening : Type 0
 FirstOpening = (state : State) (point : Point) → IsAtRest state → Reads (image_read state) point → Stands state (new_story point)
 
--- a directory has one reading
-abbrev pub OneReading : Type 0
-OneReading = (image : Named (List ℕ)) (p q : Point) → Reads image p → Reads image q → p ≡ q
-
 -- A crash leaves a device at rest that stands for a prefix of the story, with all that must not be lost.
 abbrev pub CrashLeavesPrefix : Type 0
 CrashLeavesPrefix =

@@ -1,5 +1,5 @@
 // What covering a device gives, each as the contract of a function: a proof that needs one calls it.
-ghost use Rattle.keel_recovery.specs.Laws.{CoveringStands, CrashLeavesPrefix, FirstOpening, OneReading, OpeningCovers, OpeningFindsPrefix, OpeningFindsPublished, ReadingLeavesPrefix};
+ghost use Rattle.keel_recovery.specs.Laws.{CoveringStands, CrashLeavesPrefix, FirstOpening, OpeningCovers, OpeningFindsPrefix, OpeningFindsPublished, ReadingLeavesPrefix};
 ghost use Rattle.keel_recovery.specs.Laws.{AppendCovers, CreateCovers, PublishCovers, SyncCovers, SyncDirCovers};
 ghost use Rattle.keel_recovery.specs.Laws.{InsideAppend, InsideCreate, InsideSync, InsideSyncDir};
 ghost use Rattle.keel_recovery.specs.Machine.{CoveredReads, CoveredStands, CrashTurns, FootingStays, InsideStep, OpeningGoesOn, StartsCovered, TurnKeeps};
@@ -8,11 +8,6 @@ ghost use Rattle.keel_recovery.specs.Worked.{FirstBatch, TwoPuts};
 /// A device that an open store covers stands for its story.
 pub fn covering_stands()
     ensures { CoveringStands }
-{}
-
-/// A directory has one reading.
-pub fn one_reading()
-    ensures { OneReading }
 {}
 
 /// A store that opens a device at rest covers it, where the device stands for the story that a crash left.
