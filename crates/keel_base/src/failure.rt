@@ -28,6 +28,24 @@ pub struct Failure {
     pub fault: Fault,
 }
 
+/// How bad a failure is, in rising order. From `Hard` on nothing is written while it stands.
+#[derive(Clone, Copy, Debug, PartialEq, Eq)]
+pub enum Grade {
+    NoError,
+    Soft,
+    Hard,
+    Fatal,
+    Unrecoverable,
+}
+
+/// A slot for a job that others wait for.
+#[derive(Clone, Copy, Debug, PartialEq, Eq)]
+pub enum SlotName {
+    Flush,
+    Compact0,
+    Compact1,
+}
+
 /// The kinds of device calls. `Read` stands for every call that changes nothing.
 #[derive(Clone, Copy, Debug, PartialEq, Eq)]
 pub enum Call {

@@ -2,7 +2,8 @@
 //!
 //! - `Sequence`, and under names of their own `Bytes`, `Ops`, `Batches`, `Listing`: lists on the heap.
 //! - `Op` and `Batch`: changes of the map, with the limits of their sizes and their weight.
-//! - `FileName`, `Fault`, `Reason`, `Failure`, `Call`: the words in which layers speak of the device.
+//! - `Row` and `Kind`: what a change leaves of a key; of a key's rows the newest counts.
+//! - `FileName`, `Fault`, `Reason`, `Failure`, `Grade`, `Call`: the words in which layers speak of the device.
 //! - `Options` with their ranges.
 //! - `Source` and `Sink`: where input comes from and output goes, in memory and over the standard streams.
 //!
@@ -19,19 +20,21 @@ mod listing;
 mod memory;
 mod op;
 mod options;
+mod row;
 mod sequence;
 mod sink;
 mod source;
 
 pub use adapter::{ReadSource, WriteSink};
 pub use bytes::Bytes;
-pub use failure::{Call, Counter, Failed, Failure, Fault, Reason};
+pub use failure::{Call, Counter, Failed, Failure, Fault, Grade, Reason, SlotName};
 pub use file_name::{FileName, same_name};
 pub use in_memory::{Calls, MemSink, MemSource, PlainSink, PlainSource};
 pub use listing::{Entry, Listing};
 pub use memory::OutOfMemory;
 pub use op::{Batch, Op, Ops, weight};
 pub use options::Options;
+pub use row::{Kind, Row, RowLists, Rows};
 pub use sequence::Sequence;
 pub use sink::{Sink, give_all};
 pub use source::{Source, TakeEnd, take_all};

@@ -57,4 +57,18 @@ impl<T> Sequence<T> {
         self.items.push(item)?;
         Ok(())
     }
+
+    /// The elements of a vector, which is taken over as it is.
+    pub fn from_vec(items: Vec<T>) -> Self
+        ensures { result ≡ items.items }
+    {
+        Sequence { items }
+    }
+
+    /// The elements as a vector, which has the same room.
+    pub fn into_vec(self) -> Vec<T>
+        ensures { result.items ≡ self }
+    {
+        self.items
+    }
 }

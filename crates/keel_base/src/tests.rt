@@ -1,6 +1,7 @@
 use crate::{
-    Bytes, Calls, Failed, FileName, MemSink, MemSource, Op, Ops, Options, OutOfMemory, PlainSink,
-    PlainSource, Sink, Source, TakeEnd, give_all, same_name, take_all, weight,
+    Bytes, Calls, Failed, FileName, Kind, MemSink, MemSource, Op, Ops, Options, OutOfMemory,
+    PlainSink, PlainSource, Row, Rows, Sink, Source, TakeEnd, give_all, same_name, take_all,
+    weight,
 };
 use std::alloc::Global;
 use std::test::Fail;
@@ -83,4 +84,20 @@ fn weighed(op: &Op) -> u64 {
         Op::Del { key } if key.len() > 0 && key.len() <= 1024 => weight(op),
         _ => 0,
     }
+}
+
+#[test]
+fn a_list_is_the_vector_that_it_was_made_of(rt: HostRuntime) -> Result<(), Fail> {
+    let alloc = rt.alloc();
+    let mut rows = Vec::new(alloc);
+    rows.push(Row {
+        seq: 2,
+        kind: Kind::Del,
+        key: Bytes::from_slice(alloc, b"a").ok().ok_or("memory")?,
+        value: Bytes::new(alloc),
+    })?;
+    let rows = Rows::from_vec(rows).into_vec();
+    assert_eq!(rt; rows.len(), 1);
+    assert_eq!(rt; rows[0].seq, 2);
+    Ok(())
 }

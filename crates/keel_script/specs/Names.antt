@@ -8,10 +8,10 @@ use Rattle.keel_base.specs.declared.failure.Fault.{Fault}
 use Rattle.keel_base.specs.declared.failure.Fault.TheVariants.{Plain, NoSpace, SpaceLimit, Fenced, Retryable, DataLoss, Corrupt}
 use Rattle.keel_base.specs.declared.failure.Reason.{Reason}
 use Rattle.keel_base.specs.declared.failure.Reason.TheVariants as reason
-use Rattle.keel_script.specs.declared.reply.Grade.{Grade}
-use Rattle.keel_script.specs.declared.reply.Grade.TheVariants.{NoError, Soft, Hard, Fatal, Unrecoverable}
-use Rattle.keel_script.specs.declared.reply.SlotName.{SlotName}
-use Rattle.keel_script.specs.declared.reply.SlotName.TheVariants as slot
+use Rattle.keel_base.specs.declared.failure.Grade.{Grade}
+use Rattle.keel_base.specs.declared.failure.Grade.TheVariants.{NoError, Soft, Hard, Fatal, Unrecoverable}
+use Rattle.keel_base.specs.declared.failure.SlotName.{SlotName}
+use Rattle.keel_base.specs.declared.failure.SlotName.TheVariants as slot
 
 -- how the device failed
 abbrev pub fault_name : Fault → List ℕ

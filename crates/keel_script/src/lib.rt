@@ -27,7 +27,7 @@ pub use command::{Command, LineError};
 pub use option_name::{OptionName, Range};
 pub use printing::print_command;
 pub use reading::read_command;
-pub use reply::{Grade, Reply, SlotName};
+pub use reply::Reply;
 pub use words::is_blank;
 
 #[cfg(test)]

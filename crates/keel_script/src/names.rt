@@ -2,8 +2,7 @@
 ghost use Rattle.std.specs.Prelude.{◌≡◌};
 ghost use Rattle.keel_script.specs.Names.{fault_name, call_name, reason_name, counter_name, slot_name, grade_number};
 
-use crate::{Grade, SlotName};
-use keel_base::{Call, Counter, Fault, Reason};
+use keel_base::{Call, Counter, Fault, Grade, Reason, SlotName};
 
 /// The faults that a device can be told to have: all but the store's own limit.
 pub const DEVICE_FAULTS: [Fault; 6] = [

@@ -1,24 +1,6 @@
 // What a command is answered.
 use crate::OptionName;
-use keel_base::{Bytes, Call, Counter, Failure, Fault, FileName};
-
-/// How bad a standing error is.
-#[derive(Clone, Copy, Debug, PartialEq, Eq)]
-pub enum Grade {
-    NoError,
-    Soft,
-    Hard,
-    Fatal,
-    Unrecoverable,
-}
-
-/// A slot for a job that others wait for.
-#[derive(Clone, Copy, Debug, PartialEq, Eq)]
-pub enum SlotName {
-    Flush,
-    Compact0,
-    Compact1,
-}
+use keel_base::{Bytes, Call, Counter, Failure, Fault, FileName, Grade, SlotName};
 
 /// A line of the answer to a command. Lengths and sizes are in bytes, times in ticks of one millisecond.
 #[derive(Drop)]

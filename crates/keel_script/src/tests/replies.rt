@@ -1,5 +1,5 @@
-use crate::{Grade, OptionName, Reply, SlotName, print_reply};
-use keel_base::{Bytes, Call, Counter, Failure, Fault, FileName, Reason};
+use crate::{OptionName, Reply, print_reply};
+use keel_base::{Bytes, Call, Counter, Failure, Fault, FileName, Grade, Reason, SlotName};
 use std::alloc::Global;
 
 #[test]
