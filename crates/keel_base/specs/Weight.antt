@@ -1,5 +1,6 @@
 -- What an op weighs: the bytes of its key and value, and 16.
-use Rattle.std.specs.Prelude.{ℕ, ◌+◌, ◌<◌, ◌≤◌, List, length}
+use Rattle.std.specs.Prelude.{ℕ, ◌+◌, ◌<◌, ◌≤◌, List, [], ◌∷◌, length}
+use Rattle.std.specs.List.{AllByRecursion}
 use Rattle.keel_base.specs.declared.op.Op.{Op}
 use Rattle.keel_base.specs.declared.op.Op.TheVariants.{Put, Del}
 
@@ -16,3 +17,14 @@ pub record IsKey (key : List ℕ) : Type 0 where
 abbrev pub IsWithinLimits : Op → Type 0
 IsWithinLimits (Put key value) = IsKey key × (length value ≤ 65536)
 IsWithinLimits (Del key) = IsKey key
+
+-- what the ops weigh together
+abbrev pub weight_of : List Op → ℕ
+weight_of [] = 0
+weight_of (op ∷ ops) = weight op + weight_of ops
+
+-- 1 to 1000 ops, each within its limits
+pub record AreAdmissible (ops : List Op) : Type 0 where
+  pub some : 1 ≤ length ops
+  pub few : length ops ≤ 1000
+  pub each : AllByRecursion IsWithinLimits ops

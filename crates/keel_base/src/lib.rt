@@ -32,7 +32,7 @@ pub use file_name::{FileName, same_name};
 pub use in_memory::{Calls, MemSink, MemSource, PlainSink, PlainSource};
 pub use listing::{Entry, Listing};
 pub use memory::OutOfMemory;
-pub use op::{Batch, Op, Ops, weight};
+pub use op::{Batch, Batches, Op, Ops, ops_weight, weight};
 pub use options::Options;
 pub use row::{Kind, Row, RowLists, Rows};
 pub use sequence::Sequence;

@@ -70,6 +70,7 @@ fn lists_names_and_weights(rt: HostRuntime) -> Result<(), Fail> {
     for op in ops.as_slice() {
         assert_eq!(rt; weighed(op), 19);
     }
+    assert_eq!(rt; ops_weight(&[]), 0);
     assert!(rt; same_name(FileName::Log(7), FileName::Log(7)));
     assert!(rt; !same_name(FileName::Table(7), FileName::Trash(7)));
     assert_eq!(rt; Options::standard().write_buffer, 65536);
