@@ -7,7 +7,8 @@ use Rattle.keel_machine.specs.declared.answers.Admit.TheVariants as admit
 use Rattle.keel_machine.specs.declared.steps.WriteStep.{WriteStep}
 use Rattle.keel_machine.specs.declared.steps.WriteStep.TheVariants as step
 use Rattle.keel_machine.specs.Admission.{admit_after}
-use Rattle.keel_machine.specs.States.{State, Act, MakeLog, SyncDirectory, AddRecords, SyncLog, Group, Ticketed}
+use Rattle.keel_group.specs.Queue.{Ticketed}
+use Rattle.keel_machine.specs.States.{State, Act, MakeLog, SyncDirectory, AddRecords, SyncLog, Group}
 use Rattle.keel_machine.specs.Writing.{started, started_or, ready}
 use Rattle.keel_machine.specs.WritingAfter.{goes_on, act_done, act_failed, first_done, first_failed, group_done, group_failed, write_after}
 

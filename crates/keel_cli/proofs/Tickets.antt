@@ -10,7 +10,8 @@ use Rattle.keel_machine.specs.declared.answers.Outcome.TheVariants as outcome
 use Rattle.keel_machine.specs.declared.steps.WriteStep.{WriteStep}
 use Rattle.keel_machine.specs.declared.steps.WriteStep.TheVariants as step
 use Rattle.keel_machine.specs.Admission.{ops_of, standing_of, tickets_of_group, outcome_kept, is_on_its_way, outcome_of, queued}
-use Rattle.keel_machine.specs.States.{State, Unknown, Story, Ticketed, Group, Act, MakeLog, SyncDirectory, AddRecords, SyncLog}
+use Rattle.keel_group.specs.Queue.{Ticketed}
+use Rattle.keel_machine.specs.States.{State, Unknown, Story, Group, Act, MakeLog, SyncDirectory, AddRecords, SyncLog}
 use Rattle.keel_machine.specs.Writing.{ready, started_or, group_bytes}
 use Rattle.keel_machine.specs.WritingAfter.{file_drawn, own_log, log_longer, handed_over, goes_on, act_done, act_failed, first_done, first_failed, group_done, group_failed, call_done, call_failed, queue_turned, write_after}
 use Rattle.keel_core.specs.Trails.{TrailShown, base_of}

@@ -1,10 +1,14 @@
+pub mod Lists
+pub mod Giving
 pub mod Lookups
 pub mod Stories
 pub mod Calling
+pub mod Forming
 pub mod Standing
 pub mod Ordering
-pub mod Appending
+pub mod Entering
 pub mod Batches
+pub mod Records
 pub mod Resting
 pub mod Admitting
 pub mod Limits

@@ -1,23 +1,20 @@
 -- What a batch's size refuses, and what holds of one that isn't refused.
-use Rattle.std.proofs.Common.{◌≡◌, ℕ, suc, ◌+◌, ◌*◌, ◌<◌, ◌≤◌, ◌&&◌, not, nat_le, nat_lt, Bool, true, false, List, [], ◌∷◌, length, drop, get_or, Option, Some, None, refl, sym, ap, subst, ◌∙◌, arith, add-one}
-use Rattle.std.proofs.Math.Seq.{drop-cons}
+use Rattle.std.proofs.Common.{◌≡◌, ℕ, ◌≤◌, ◌&&◌, not, nat_le, nat_lt, Bool, true, false, List, [], ◌∷◌, length, Option, Some, None, refl, sym, ap, subst, ◌∙◌, arith}
 use Rattle.std.proofs.lemmas.Bool.{leb-true}
 use Rattle.std.specs.List.{AllByRecursion}
-use Rattle.keel_base.specs.Weight.{weight, IsWithinLimits}
+use Rattle.keel_base.specs.Weight.{AreAdmissible, IsWithinLimits, weight_of}
 use Rattle.keel_base.specs.declared.op.Batch.{Batch}
 use Rattle.keel_base.specs.declared.op.Op.{Op}
 use Rattle.keel_base.specs.declared.op.Op.TheVariants.{Put, Del}
-use Rattle.keel_batch.specs.Spelling.{IsOp}
 use Rattle.keel_machine.specs.declared.answers.Admit.{Admit}
 use Rattle.keel_machine.specs.declared.answers.Admit.TheVariants.{BadSize}
 use Rattle.keel_machine.specs.declared.answers.Admit.TheVariants as admit
 use Rattle.keel_machine.specs.declared.answers.Part.TheVariants.{Key, Value}
 use Rattle.keel_machine.specs.declared.answers.Part.TheVariants as part
-use Rattle.keel_machine.specs.Admission.{AdmitAnswers, admit_after, is_key_length, op_refusal, ops_refusal, size_refusal, weight_of}
+use Rattle.keel_machine.specs.Admission.{AdmitAnswers, admit_after, is_key_length, op_refusal, ops_refusal, size_refusal}
 use Rattle.keel_machine.specs.States.{State, with_device}
 use Rattle.keel_machine.specs.Tests.{first_some, when}
 use Rattle.keel_machine.specs.Turns.{Admitting}
-use Rattle.keel_core.specs.Orders.{IsAdmissible}
 use Rattle.keel_core.specs.Views.{CoreView, Turns, state_of}
 use Rattle.keel_core.proofs.Admitting.{turns_by_story}
 
@@ -60,47 +57,24 @@ key_within key h =
     let tests = both_true (nat_le 1 (length key)) (nat_le (length key) 1024) (no_answer (not (is_key_length (length key))) (BadSize Key (length key)) h) in
     (leb-true 1 (length key) tests.0, leb-true (length key) 1024 tests.1)
 
-pub op_within : (op : Op) → op_refusal op ≡ None → IsOp op
+op_within : (op : Op) → op_refusal op ≡ None → IsWithinLimits op
 op_within (Put key value) h =
     let tests = none_of_two (key_test key) (value_test value) h in
-    (key_within key tests.0, (omega arith, at_most 65536 (length value) (no_answer (nat_lt 65536 (length value)) (BadSize Value (length value)) tests.1)))
-op_within (Del key) h = key_within key h
+    let within = key_within key tests.0 in
+    (record { some = omega (arith, within.0); most = within.1 }, at_most 65536 (length value) (no_answer (nat_lt 65536 (length value)) (BadSize Value (length value)) tests.1))
+op_within (Del key) h = let within = key_within key h in record { some = omega (arith, within.0); most = within.1 }
 
-pub within_limits : (op : Op) → IsOp op → IsWithinLimits op
-within_limits (Put key value) h = (record { some = omega (arith, h.0.0); most = h.0.1 }, h.1.1)
-within_limits (Del key) h = record { some = omega (arith, h.0); most = h.1 }
-
-pub ops_within : (ops : List Op) → ops_refusal ops ≡ None → AllByRecursion IsOp ops
+pub ops_within : (ops : List Op) → ops_refusal ops ≡ None → AllByRecursion IsWithinLimits ops
 ops_within [] h = tt
 ops_within (op ∷ ops) h = let both = none_of_two (op_refusal op) (ops_refusal ops) h in (op_within op both.0, ops_within ops both.1)
 
-op_weight : (op : Op) → IsOp op → weight op ≤ 66576
-op_weight (Put key value) h = omega (arith, h.0.1, h.1.1)
-op_weight (Del key) h = omega (arith, h.1)
-
-pub weight_most : (ops : List Op) → ops_refusal ops ≡ None → weight_of ops ≤ 66576 * length ops
-weight_most [] h = omega arith
-weight_most (op ∷ ops) h =
-    let both = none_of_two (op_refusal op) (ops_refusal ops) h in
-    omega (arith, op_weight op (op_within op both.0), weight_most ops both.1)
-
 -- ---- the ops from one on
-
-pub next_op : (ops : List Op) (i : ℕ) (op : Op) → i < length ops → op ≡ get_or ops i op → drop i ops ≡ op ∷ drop (i + 1) ops
-next_op ops i op lt is = rw add-one (drop-cons ops i op lt ∙ ap (λ (o : Op). o ∷ drop (suc i) ops) (sym is))
 
 pub refused_here : (ops rest : List Op) (op : Op) (answer : Admit) → rest ≡ op ∷ ops → op_refusal op ≡ Some answer → ops_refusal rest ≡ Some answer
 refused_here ops rest op answer is refused = ap ops_refusal is ∙ ap (λ (o : Option Admit). first_some (o ∷ ops_refusal ops ∷ [])) refused
 
 pub goes_on : (ops rest : List Op) (op : Op) → rest ≡ op ∷ ops → op_refusal op ≡ None → ops_refusal rest ≡ ops_refusal ops
 goes_on ops rest op is none = ap ops_refusal is ∙ ap (λ (o : Option Admit). first_some (o ∷ ops_refusal ops ∷ [])) none ∙ last_one (ops_refusal ops)
-
--- the first of ops that aren't refused, and those behind it
-pub first_op : (ops rest : List Op) (op : Op) → rest ≡ op ∷ ops → ops_refusal rest ≡ None → IsWithinLimits op
-first_op ops rest op is none = within_limits op (op_within op ((none_of_two (op_refusal op) (ops_refusal ops) (ap ops_refusal (sym is) ∙ none)).0))
-
-pub later_ops : (ops rest : List Op) (op : Op) → rest ≡ op ∷ ops → ops_refusal rest ≡ None → ops_refusal ops ≡ None
-later_ops ops rest op is none = (none_of_two (op_refusal op) (ops_refusal ops) (ap ops_refusal (sym is) ∙ none)).1
 
 -- ---- batches
 
@@ -109,7 +83,7 @@ abbrev batch_test : Bool → ℕ → Option Admit
 batch_test test length = when test (BadSize part.Batch length)
 
 -- a batch that isn't refused for its size may be queued
-pub admissible : (batch : Batch) → size_refusal batch ≡ None → IsAdmissible batch
+pub admissible : (batch : Batch) → size_refusal batch ≡ None → AreAdmissible batch.ops
 admissible batch h =
     let count : Bool = not (nat_le 1 (length batch.ops) && nat_le (length batch.ops) 1000) in
     let tests = none_of_three (ops_refusal batch.ops) (batch_test count (length batch.ops)) (batch_test (nat_lt 1048576 (weight_of batch.ops)) (weight_of batch.ops)) h in

@@ -1,6 +1,7 @@
 -- An opening is a turn of the machine, and the store stands for the state behind.
 use Rattle.std.proofs.Common.{◌≡◌, ◌+◌, Bool, true, false, [], length, Option, Some, None, Ok, Err, refl, sym, ap, subst, ◌∙◌, arith, add-zero}
 use Rattle.std.proofs.lemmas.List.{append-nil}
+use Rattle.std.proofs.lemmas.List.Elements.{All-nil}
 use Rattle.keel_disk.specs.Plain.{image_read}
 use Rattle.keel_disk.specs.Told.{Told}
 use Rattle.keel_machine.specs.Admission.{ops_of, count_ops}
@@ -70,8 +71,8 @@ new_in_order trail queue found empty q runs = record {
   seq = sym (last_found found runs) ∙ ap (λ (t : TrailShown). (point_at t).seq) (sym empty.shows);
   handed = subst (λ (t : TrailShown). found.last_seq ≡ found.last_seq + count_ops (ops_of t.limbo)) (sym empty.shows) (sym (add-zero found.last_seq));
   enough = rw (q.group, q.waiting) (omega (arith, runs.last_most));
-  group = rw q.group tt;
-  waiting = rw q.waiting tt;
+  group = rw q.group (All-nil _);
+  few = rw q.group (omega arith);
   staged = rw q.group tt;
   settled = rw q.outcomes tt;
   trail_room = rw (q.group, q.waiting) (omega (arith, empty.none));

@@ -1,5 +1,5 @@
 -- A step that rests.
-use Rattle.std.proofs.Common.{◌≡◌, ℕ, ◌<◌, List, [], ◌∷◌, length, Option, Some, None, IsSome, refl, sym, ap, subst, ◌∙◌, arith, option_to_list, option_map, ◌==◌, ◌&&◌, ◌^◌, not, nat_le, is_some}
+use Rattle.std.proofs.Common.{◌≡◌, ℕ, ◌<◌, List, [], ◌∷◌, length, Option, Some, None, refl, sym, ap, subst, ◌∙◌, arith, option_to_list, option_map, ◌==◌, ◌&&◌, ◌^◌, not, nat_le, is_some}
 use Rattle.keel_base.specs.declared.failure.Failure.{Failure}
 use Rattle.keel_machine.specs.declared.steps.WriteStep.{WriteStep}
 use Rattle.keel_machine.specs.declared.steps.WriteStep.TheVariants as step
@@ -10,10 +10,9 @@ use Rattle.keel_machine.specs.Outside.{IsQuiet}
 use Rattle.keel_machine.specs.Tests.{first_some, when, differing}
 use Rattle.keel_machine.specs.Writing.{write_rest}
 use Rattle.keel_base.specs.declared.failure.Counter.TheVariants.{FileNumber, JobNumber}
-use Rattle.keel_core.specs.declared.queue.Ticketed.{Ticketed}
-use Rattle.keel_core.specs.declared.queue.Group.{Group}
+use Rattle.keel_core.specs.Flights.{Flying}
 use Rattle.keel_core.specs.Steps.{rested}
-use Rattle.keel_core.specs.Views.{CoreView, StandsFor, Turns, ComesNearer, IsRest, state_of, rest_of, no_story, Finds, calls_left, waiting_of, own_of}
+use Rattle.keel_core.specs.Views.{CoreView, StandsFor, Turns, ComesNearer, IsRest, state_of, rest_of, no_story, Finds, calls_left, own_of}
 use Rattle.keel_core.proofs.Calling.{quiet_same}
 
 standing_of-one : (standing : Option Failure) → standing_of (option_to_list standing) ≡ standing
@@ -25,15 +24,15 @@ abbrev rest_with : CoreView → Option ℕ → Option Failure → Option WriteSt
 rest_with view held standing = first_some (
     option_map (λ job. step.Cancelled job view.job) (differing held view.job)
     ∷ first_some (
-    when (length (waiting_of view.waiting) == 0) step.Idle
-    ∷ option_map (λ failure. step.Turned (length (waiting_of view.waiting)) failure) standing
+    when (length view.waiting == 0) step.Idle
+    ∷ option_map (λ failure. step.Turned (length view.waiting) failure) standing
     ∷ when (nat_le (2 ^ 56) view.job) (step.Spent JobNumber)
     ∷ when (not (is_some (own_of view.stage)) && nat_le (2 ^ 56) view.next_file) (step.Spent FileNumber)
     ∷ [])
     ∷ [])
 
 -- what a step answers without a call depends on the failures by the one that stands
-same_rest : (view : CoreView) (group : Option Group) (footing one : Footing) (story other : Story) (failures others : List Failure) (held : Option ℕ) → standing_of failures ≡ standing_of others
+same_rest : (view : CoreView) (group : Option Flying) (footing one : Footing) (story other : Story) (failures others : List Failure) (held : Option ℕ) → standing_of failures ≡ standing_of others
     → write_rest (state_of (record view { group = group }) footing story failures) held ≡ write_rest (state_of (record view { group = group }) one other others) held
 same_rest view (Some group) footing one story other failures others held same = refl
 same_rest view None footing one story other failures others held same = ap (rest_with view held) same
@@ -43,17 +42,9 @@ rest_same view s held stands =
     ap (λ (t : State). write_rest t held) stands.state_is
     ∙ same_rest view view.group stands.footing Unknown stands.story no_story stands.failures (option_to_list view.standing) held (sym stands.standing ∙ sym (standing_of-one view.standing))
 
-turned_stands : (view : CoreView) (waiting : Option Ticketed) (batches : ℕ) (failure : Failure) (s : State) → StandsFor (record view { waiting = waiting }) s
-    → StandsFor (rested (step.Turned batches failure) (record view { waiting = waiting })) (after s (Writing None (step.Turned batches failure)) view.device)
-turned_stands view None batches failure s stands = record {
-  footing = stands.footing;
-  story = stands.story;
-  failures = stands.failures;
-  state_is = ap (λ (t : State). after t (Writing None (step.Turned batches failure)) view.device) stands.state_is;
-  fits = stands.fits;
-  standing = stands.standing;
-}
-turned_stands view (Some first) batches failure s stands = record {
+turned_stands : (view : CoreView) (batches : ℕ) (failure : Failure) (s : State) → StandsFor view s
+    → StandsFor (rested (step.Turned batches failure) view) (after s (Writing None (step.Turned batches failure)) view.device)
+turned_stands view batches failure s stands = record {
   footing = stands.footing;
   story = stands.story;
   failures = stands.failures;
@@ -74,7 +65,7 @@ quiet_in view s stands = subst (λ (t : State). IsQuiet t.device None view.devic
 rest_turns : (view : CoreView) (made : WriteStep) (s : State) (held : Option ℕ) → IsRest made → StandsFor view s → write_rest s held ≡ Some made
     → Answers s (Writing held made) (rested made view).device × StandsFor (rested made view) (after s (Writing held made) (rested made view).device)
 rest_turns view step.Idle s held rests stands is = (record { first = is; quiet = quiet_in view s stands }, subst (StandsFor view) (sym (same_state view s stands)) stands)
-rest_turns view (step.Turned batches failure) s held rests stands is = (record { first = is; quiet = quiet_in view s stands }, turned_stands view view.waiting batches failure s stands)
+rest_turns view (step.Turned batches failure) s held rests stands is = (record { first = is; quiet = quiet_in view s stands }, turned_stands view batches failure s stands)
 rest_turns view (step.Spent counter) s held rests stands is = (record { first = is; quiet = quiet_in view s stands }, subst (StandsFor view) (sym (same_state view s stands)) stands)
 rest_turns view (step.Cancelled job current) s held rests stands is = (record { first = is; quiet = quiet_in view s stands }, subst (StandsFor view) (sym (same_state view s stands)) stands)
 rest_turns view (step.Moved job call) s held rests stands is = absurd rests
@@ -85,14 +76,12 @@ rest_turns view step.OutOfMemory s held rests stands is = absurd rests
 pub rest_goes : (view : CoreView) (made : WriteStep) (held : Option ℕ) → IsRest made → Some made ≡ rest_of view held → Turns view (Writing held made) (rested made view)
 rest_goes view made held rests is = record { goes = λ s stands. rest_turns view made s held rests stands (rest_same view s held stands ∙ sym is) }
 
-turned_nearer : (view : CoreView) (waiting : Option Ticketed) (batches : ℕ) (failure : Failure) → IsSome waiting
-    → calls_left (rested (step.Turned batches failure) (record view { waiting = waiting })) < calls_left (record view { waiting = waiting })
-turned_nearer view None batches failure some = cc
-turned_nearer view (Some first) batches failure some = omega arith
+turned_nearer : (view : CoreView) (batches : ℕ) (failure : Failure) → 0 < length view.waiting → calls_left (rested (step.Turned batches failure) view) < calls_left view
+turned_nearer view batches failure some = omega (arith, some)
 
 pub rest_nearer : (view : CoreView) (made : WriteStep) → IsRest made → Finds view made → ComesNearer view made (rested made view)
 rest_nearer view step.Idle rests finds = finds
-rest_nearer view (step.Turned batches failure) rests finds = turned_nearer view view.waiting batches failure finds
+rest_nearer view (step.Turned batches failure) rests finds = turned_nearer view batches failure finds
 rest_nearer view (step.Spent counter) rests finds = tt
 rest_nearer view (step.Cancelled job current) rests finds = tt
 rest_nearer view (step.Moved job call) rests finds = absurd rests

@@ -31,12 +31,12 @@ length-ops_of : (batches : List Batch) → length (ops_of batches) ≡ length ba
 length-ops_of [] = refl
 length-ops_of (batch ∷ batches) = ap suc (length-ops_of batches)
 
-pub fits_handed : (point : Point) (trail : TrailShown) (story : Story) (batch : Batch) → Fits point trail story
-    → Fits point (handed batch trail) (handed_over (batch.ops ∷ []) story)
-fits_handed point trail story batch fits = record {
+pub fits_handed : (point : Point) (trail : TrailShown) (story : Story) (batches : List Batch) → Fits point trail story
+    → Fits point (handed batches trail) (handed_over (ops_of batches) story)
+fits_handed point trail story batches fits = record {
   earlier = fits.earlier;
   log_is = fits.log_is;
-  limbo_is = ap (λ (l : List (List Op)). l ++ batch.ops ∷ []) fits.limbo_is ∙ sym (ops_of-append trail.limbo (batch ∷ []));
+  limbo_is = ap (λ (l : List (List Op)). l ++ ops_of batches) fits.limbo_is ∙ sym (ops_of-append trail.limbo batches);
   floor_is = fits.floor_is;
   point_is = fits.point_is;
 }

@@ -1,6 +1,6 @@
-pub mod Optional
 pub mod Logs
 pub mod Trails
+pub mod Flights
 pub mod Queues
 pub mod Orders
 pub mod Views

@@ -1,15 +1,18 @@
 -- What a queue shows, and how it goes on.
-use Rattle.std.specs.Prelude.{◌≡◌, ℕ, ◌+◌, ◌==◌, ◌||◌, Bool, false, List, [], ◌∷◌, Option, Some, None, unwrap_or, if◌then◌else◌}
+use Rattle.std.specs.Prelude.{◌≡◌, ℕ, ◌+◌, ◌==◌, Bool, false, List, [], ◌∷◌, ◌++◌, map, take, drop, Option, Some, None, unwrap_or, if◌then◌else◌}
+use Rattle.std.specs.List.{list_any}
 use Rattle.keel_base.specs.declared.op.Batch.{Batch}
+use Rattle.keel_group.specs.declared.formed.Formed.{Formed}
+use Rattle.keel_group.specs.Forming.{HasRoomFor, next_size, next_batches, wants_sync}
+use Rattle.keel_group.specs.Queue.{Ticketed, tickets_of}
 use Rattle.keel_machine.specs.declared.answers.Outcome.{Outcome}
 use Rattle.keel_machine.specs.declared.answers.Outcome.TheVariants as outcome
 use Rattle.keel_machine.specs.Admission.{outcome_kept}
-use Rattle.keel_core.specs.declared.queue.Ticketed.{Ticketed}
-use Rattle.keel_core.specs.declared.queue.Group.{Group}
 use Rattle.keel_core.specs.declared.queue.Queue.{Queue}
+use Rattle.keel_core.specs.Flights.{Flying}
 
 pub record IsNewQueue (q : Queue) : Type 0 where
-  pub waiting : q.waiting ≡ None
+  pub waiting : q.waiting ≡ []
   pub group : q.group ≡ None
   pub outcomes : q.outcomes.items ≡ []
   pub last_ticket : q.last_ticket ≡ 0
@@ -17,61 +20,66 @@ pub record IsNewQueue (q : Queue) : Type 0 where
 
 -- ---- a group is formed
 
--- Where no group is in flight, the batch that waits becomes one.
-abbrev pub group_entered : Option Ticketed → Option Group → Option Group
+-- the next group of those that wait
+abbrev pub next_group : List Ticketed → Flying
+next_group waiting = record {
+  tickets = take (next_size waiting) (tickets_of waiting);
+  batches = next_batches waiting;
+  sync = wants_sync (next_batches waiting);
+}
+
+-- Where no group is in flight, the next one is.
+abbrev pub group_entered : List Ticketed → Option Flying → Option Flying
 group_entered waiting (Some group) = Some group
-group_entered (Some first) None = Some (record { ticket = first.ticket; sync = first.batch.sync; batch = Some first.batch })
-group_entered None None = None
+group_entered [] None = None
+group_entered (first ∷ rest) None = Some (next_group (first ∷ rest))
 
-abbrev pub waiting_entered : Option Ticketed → Option Group → Option Ticketed
+abbrev pub waiting_entered : List Ticketed → Option Flying → List Ticketed
 waiting_entered waiting (Some group) = waiting
-waiting_entered waiting None = None
+waiting_entered waiting None = drop (next_size waiting) waiting
 
-abbrev pub job_entered : Option Ticketed → Option Group → ℕ → ℕ
+abbrev pub job_entered : List Ticketed → Option Flying → ℕ → ℕ
 job_entered waiting (Some group) job = job
-job_entered (Some first) None job = job + 1
-job_entered None None job = job
+job_entered [] None job = job
+job_entered (first ∷ rest) None job = job + 1
 
--- the batch that the next append hands to the log
-abbrev pub batch_next : Option Ticketed → Option Group → Option Batch
-batch_next waiting (Some group) = group.batch
-batch_next (Some first) None = Some first.batch
-batch_next None None = None
+-- where no group is in flight, there is room for the next one
+abbrev pub HasRoom : List Ticketed → Option Flying → Formed → Type 0
+HasRoom waiting None formed = HasRoomFor (next_size waiting) formed
+HasRoom waiting (Some group) formed = Unit {0}
 
-abbrev pub batch_of_group : Option Group → Option Batch
-batch_of_group None = None
-batch_of_group (Some group) = group.batch
+-- the batches of the group in flight, until they are handed to the log
+abbrev pub batches_in : Option Flying → List Batch
+batches_in None = []
+batches_in (Some group) = group.batches
 
-abbrev pub without_batch : Option Group → Option Group
-without_batch None = None
-without_batch (Some group) = Some (record group { batch = None })
+abbrev pub tickets_in : Option Flying → List ℕ
+tickets_in None = []
+tickets_in (Some group) = group.tickets
+
+-- the batches that the next append hands to the log
+abbrev pub batches_next : List Ticketed → Option Flying → List Batch
+batches_next waiting (Some group) = group.batches
+batches_next waiting None = next_batches waiting
+
+abbrev pub without_batches : Option Flying → Option Flying
+without_batches None = None
+without_batches (Some group) = Some (record group { batches = [] })
 
 -- ---- outcomes
 
-abbrev pub group_settled : Outcome → Option Group → List (ℕ × Outcome)
-group_settled outcome None = []
-group_settled outcome (Some group) = (group.ticket, outcome) ∷ []
+-- each of these tickets has this outcome
+abbrev pub given : Outcome → List ℕ → List (ℕ × Outcome)
+given outcome tickets = map (λ ticket. (ticket, outcome)) tickets
 
-abbrev pub waiting_settled : Outcome → Option Ticketed → List (ℕ × Outcome)
-waiting_settled outcome None = []
-waiting_settled outcome (Some first) = (first.ticket, outcome) ∷ []
+abbrev pub on_its_way : ℕ → Option Flying → List Ticketed → Bool
+on_its_way ticket group waiting = list_any (λ other. other == ticket) (tickets_in group ++ tickets_of waiting)
 
-abbrev pub has_group_ticket : ℕ → Option Group → Bool
-has_group_ticket ticket None = false
-has_group_ticket ticket (Some group) = group.ticket == ticket
-
-abbrev pub has_waiting_ticket : ℕ → Option Ticketed → Bool
-has_waiting_ticket ticket None = false
-has_waiting_ticket ticket (Some first) = first.ticket == ticket
-
-abbrev pub on_its_way : ℕ → Option Group → Option Ticketed → Bool
-on_its_way ticket group waiting = has_group_ticket ticket group || has_waiting_ticket ticket waiting
-
-abbrev pub outcome_told : ℕ → List (ℕ × Outcome) → Option Group → Option Ticketed → Outcome
+abbrev pub outcome_told : ℕ → List (ℕ × Outcome) → Option Flying → List Ticketed → Outcome
 outcome_told ticket outcomes group waiting =
     unwrap_or (outcome_kept ticket outcomes) (if on_its_way ticket group waiting then outcome.Waiting else outcome.Unknown)
 
 -- whether the group in flight is to be synced
-abbrev pub wants_sync : Option Group → Bool
-wants_sync None = false
-wants_sync (Some group) = group.sync
+abbrev pub is_synced : Option Flying → Bool
+is_synced None = false
+is_synced (Some group) = group.sync

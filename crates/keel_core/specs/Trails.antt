@@ -1,5 +1,5 @@
 -- What a trail shows, and how it goes on.
-use Rattle.std.specs.Prelude.{◌≡◌, ℕ, Bool, List, [], ◌∷◌, ◌++◌, length, take, drop, vec_len, if◌then◌else◌}
+use Rattle.std.specs.Prelude.{◌≡◌, ℕ, Bool, List, [], ◌++◌, length, take, drop, vec_len, if◌then◌else◌}
 use Rattle.keel_base.specs.Points.{Point, origin, fold_batches}
 use Rattle.keel_base.specs.declared.op.Batch.{Batch}
 use Rattle.keel_batch.specs.declared.batch.Numbered.{Numbered}
@@ -35,9 +35,9 @@ pub record IsEmptyTrail (read : List Numbered) (t : Trail) : Type 0 where
   pub shows : shown t ≡ no_trail read
   pub none : vec_len t.batches ≡ 0
 
--- a batch more is in limbo
-abbrev pub handed : Batch → TrailShown → TrailShown
-handed batch trail = record { read = trail.read; log = trail.log; limbo = trail.limbo ++ batch ∷ []; floor = trail.floor }
+-- batches more are in limbo
+abbrev pub handed : List Batch → TrailShown → TrailShown
+handed batches trail = record { read = trail.read; log = trail.log; limbo = trail.limbo ++ batches; floor = trail.floor }
 
 -- what was in limbo is published; behind a sync none of it must be lost
 abbrev pub published : Bool → TrailShown → TrailShown

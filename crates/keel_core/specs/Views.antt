@@ -1,41 +1,37 @@
 -- What a core shows, and the states of the machine that it stands for.
-use Rattle.std.specs.Prelude.{◌≡◌, ◌≢◌, ℕ, ◌+◌, ◌*◌, ◌<◌, ◌^◌, Bool, List, [], ◌∷◌, ◌++◌, length, Option, Some, None, IsSome, option_to_list, if◌then◌else◌}
+use Rattle.std.specs.Prelude.{◌≡◌, ◌≢◌, ℕ, ◌+◌, ◌*◌, ◌<◌, ◌^◌, Bool, List, [], ◌∷◌, ◌++◌, length, Option, Some, None, option_to_list, if◌then◌else◌}
 use Rattle.keel_base.specs.Points.{Point, origin}
 use Rattle.keel_base.specs.declared.failure.Failure.{Failure}
 use Rattle.keel_base.specs.declared.op.Batch.{Batch}
 use Rattle.keel_base.specs.declared.op.Op.{Op}
 use Rattle.keel_disk.specs.Told.{Told}
+use Rattle.keel_group.specs.Queue.{Ticketed}
 use Rattle.keel_machine.specs.declared.answers.Outcome.{Outcome}
 use Rattle.keel_machine.specs.declared.steps.WriteStep.{WriteStep}
 use Rattle.keel_machine.specs.declared.steps.WriteStep.TheVariants as step
 use Rattle.keel_machine.specs.Admission.{ops_of, standing_of}
 use Rattle.keel_machine.specs.States as machine
-use Rattle.keel_machine.specs.States.{State, Seen, Story, Footing, Unknown, Open, Act, MakeLog, SyncDirectory, AddRecords, SyncLog, point_of}
+use Rattle.keel_machine.specs.States.{State, Seen, Story, Footing, Unknown, Open, Group, Act, MakeLog, SyncDirectory, AddRecords, SyncLog, point_of}
 use Rattle.keel_machine.specs.Turns.{Event, Answers, after}
 use Rattle.keel_machine.specs.Turns as turns
 use Rattle.keel_machine.specs.Writing.{write_rest}
 use Rattle.keel_core.specs.declared.log.OwnLog.{OwnLog}
 use Rattle.keel_core.specs.declared.log.OwnLog.TheVariants.{Absent, Created, Ready}
-use Rattle.keel_core.specs.declared.queue.Ticketed.{Ticketed}
-use Rattle.keel_core.specs.declared.queue.Group.{Group}
+use Rattle.keel_core.specs.Flights.{Flying}
 use Rattle.keel_core.specs.Orders.{point_at}
 use Rattle.keel_core.specs.Trails.{TrailShown}
 
 -- ---- parts as the machine has them
 
-abbrev pub waiting_of : Option Ticketed → List machine.Ticketed
-waiting_of None = []
-waiting_of (Some first) = (record { ticket = first.ticket; batch = first.batch }) ∷ []
-
 abbrev pub sync_act : Bool → List Act
 sync_act sync = if sync then SyncLog ∷ [] else []
 
 -- the calls that a group has before it
-abbrev pub left_of : OwnLog → Option Batch → Bool → List Act
-left_of log None sync = SyncLog ∷ []
-left_of Absent (Some batch) sync = MakeLog ∷ SyncDirectory ∷ AddRecords ∷ sync_act sync
-left_of (Created number) (Some batch) sync = SyncDirectory ∷ AddRecords ∷ sync_act sync
-left_of (Ready number size) (Some batch) sync = AddRecords ∷ sync_act sync
+abbrev pub left_of : OwnLog → List Batch → Bool → List Act
+left_of log [] sync = SyncLog ∷ []
+left_of Absent (batch ∷ batches) sync = MakeLog ∷ SyncDirectory ∷ AddRecords ∷ sync_act sync
+left_of (Created number) (batch ∷ batches) sync = SyncDirectory ∷ AddRecords ∷ sync_act sync
+left_of (Ready number size) (batch ∷ batches) sync = AddRecords ∷ sync_act sync
 
 abbrev pub created_of : OwnLog → Option ℕ
 created_of (Created number) = Some number
@@ -45,15 +41,15 @@ abbrev pub own_of : OwnLog → Option machine.OwnLog
 own_of (Ready number size) = Some (record { number = number; size = size })
 own_of _ = None
 
-abbrev pub shown_group : OwnLog → Group → machine.Group
+abbrev pub shown_group : OwnLog → Flying → Group
 shown_group log group = record {
-  tickets = group.ticket ∷ [];
-  batches = option_to_list group.batch;
+  tickets = group.tickets;
+  batches = group.batches;
   log = created_of log;
-  left = left_of log group.batch group.sync;
+  left = left_of log group.batches group.sync;
 }
 
-abbrev pub group_of : OwnLog → Option Group → Option machine.Group
+abbrev pub group_of : OwnLog → Option Flying → Option Group
 group_of log None = None
 group_of log (Some group) = Some (shown_group log group)
 
@@ -63,8 +59,8 @@ pub record CoreView : Type 0 where
   pub device : Seen
   pub trail : TrailShown
   pub stage : OwnLog
-  pub waiting : Option Ticketed
-  pub group : Option Group
+  pub waiting : List Ticketed
+  pub group : Option Flying
   -- those that weren't taken
   pub outcomes : List (ℕ × Outcome)
   pub last_ticket : ℕ
@@ -98,7 +94,7 @@ state_of view footing story failures = record {
   mode = Open;
   story = story;
   log = own_of view.stage;
-  writing = record { waiting = waiting_of view.waiting; outcomes = view.outcomes; last_ticket = view.last_ticket };
+  writing = record { waiting = view.waiting; outcomes = view.outcomes; last_ticket = view.last_ticket };
   failing = record { failures = failures };
   jobs = record { write = record { number = view.job; running = group_of view.stage view.group } };
   numbers = record { next_file = view.next_file };
@@ -136,7 +132,7 @@ IsRest _ = ⊥
 
 -- a group is in flight or can be formed, and the numbers that its next call draws are below their ends
 pub record CanGoOn (view : CoreView) : Type 0 where
-  pub some : view.group ≡ None → view.waiting ≢ None
+  pub some : view.group ≡ None → view.waiting ≢ []
   pub job : view.group ≡ None → view.job < 2 ^ 56
   pub file : view.stage ≡ Absent → view.next_file < 2 ^ 56
 
@@ -147,12 +143,12 @@ pub record MakesCall (old : CoreView) (made : WriteStep) (new : CoreView) : Type
       → Answers s (turns.Writing held made) new.device × StandsFor new (after s (turns.Writing held made) new.device)
 
 -- how many calls those in the queue and in flight still have before them, at most
-abbrev pub calls_in : Option machine.Group → ℕ
+abbrev pub calls_in : Option Group → ℕ
 calls_in None = 0
 calls_in (Some group) = length group.left
 
 abbrev pub calls_left : CoreView → ℕ
-calls_left view = calls_in (group_of view.stage view.group) + 5 * length (waiting_of view.waiting)
+calls_left view = calls_in (group_of view.stage view.group) + 5 * length view.waiting
 
 -- a step that did something brings what waits nearer, and one finds nothing to do only where nothing waits
 abbrev pub ComesNearer : CoreView → WriteStep → CoreView → Type 0
@@ -166,5 +162,5 @@ ComesNearer old _ new = Unit {0}
 -- what a step that rests finds of the queue
 abbrev pub Finds : CoreView → WriteStep → Type 0
 Finds view step.Idle = calls_left view ≡ 0
-Finds view (step.Turned batches failure) = IsSome view.waiting
+Finds view (step.Turned batches failure) = 0 < length view.waiting
 Finds view _ = Unit {0}

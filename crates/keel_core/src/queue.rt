@@ -1,47 +1,44 @@
-// The batch that waits, the group in flight, and the outcomes that weren't taken.
-ghost use Rattle.std.specs.Prelude.{◌≡◌, ◌+◌, ◌<◌, ◌≤◌, ◌^◌, ◌++◌, ◌==◌, not, filter, vec_len, vec_capacity, None, OnOk};
-ghost use Rattle.std.specs.Option.{option_copied};
-ghost use Rattle.keel_machine.specs.Admission.{outcome_kept};
-ghost use Rattle.keel_core.specs.Optional.{ops_in, one_if};
+// The batches that wait, the group in flight, and the outcomes that weren't taken.
+ghost use Rattle.std.specs.Prelude.{◌≡◌, ◌+◌, ◌<◌, ◌≤◌, ◌^◌, ◌++◌, ◌==◌, [], not, filter, length, drop, vec_len, vec_capacity, None, IfOk, OnOk};
+ghost use Rattle.std.specs.List.{list_any};
+ghost use Rattle.keel_group.specs.Forming.{EachIsAdmissible};
+ghost use Rattle.keel_group.specs.Queue.{batches_of, tickets_of};
+ghost use Rattle.keel_machine.specs.Admission.{count_ops, ops_of, outcome_kept};
+ghost use Rattle.keel_machine.specs.WritingAfter.{done_each, seq_behind};
+ghost use Rattle.keel_core.specs.Queues.{given};
 
-use keel_base::{Batch, Failure};
+use keel_base::{Batch, Failure, OutOfMemory};
+use keel_group::{Formed, Group};
 use keel_machine::Outcome;
 use std::alloc::{AllocError, Global};
 
-/// A batch that waits, under its ticket.
+/// The group in flight, which has its batches until they are handed to the log.
 #[derive(Drop)]
-pub(crate) struct Ticketed {
-    pub(crate) ticket: u64,
-    pub(crate) batch: Batch,
-}
-
-/// The group in flight: one batch, which it has until it is handed to the log.
-#[derive(Drop)]
-pub(crate) struct Group {
-    pub(crate) ticket: u64,
+pub(crate) struct Flight {
+    pub(crate) tickets: Vec<u64>,
+    pub(crate) batches: Vec<Batch>,
     pub(crate) sync: bool,
-    pub(crate) batch: Option<Batch>,
 }
 
-/// One batch waits at most, and one group is in flight. There is always room for the outcomes of both.
+/// There is always room for the outcomes of all that wait and of the group in flight.
 #[derive(Drop)]
 pub(crate) struct Queue {
-    pub(crate) waiting: Option<Ticketed>,
-    pub(crate) group: Option<Group>,
+    pub(crate) waiting: Group,
+    pub(crate) group: Option<Flight>,
     pub(crate) outcomes: Vec<(u64, Outcome)>,
     pub(crate) last_ticket: u64,
     pub(crate) job: u64,
 }
 
 impl Queue {
-    ghost use Rattle.keel_core.specs.Orders.{group_batch, waiting_batch};
-    ghost use Rattle.keel_core.specs.Queues.{IsNewQueue, group_entered, waiting_entered, job_entered, batch_next, batch_of_group, without_batch, group_settled, waiting_settled, outcome_told, on_its_way, wants_sync};
+    ghost use Rattle.keel_core.specs.Flights.{flying};
+    ghost use Rattle.keel_core.specs.Queues.{IsNewQueue, HasRoom, group_entered, waiting_entered, job_entered, batches_in, batches_next, tickets_in, without_batches, outcome_told, on_its_way, is_synced};
 
     pub(crate) fn new(alloc: Global) -> Queue
         ensures { IsNewQueue result }
     {
         Queue {
-            waiting: None,
+            waiting: Group::new(alloc),
             group: None,
             outcomes: Vec::new(alloc),
             last_ticket: 0,
@@ -49,54 +46,76 @@ impl Queue {
         }
     }
 
-    /// Takes the memory for the outcomes of a batch that waits and of the group in flight.
+    /// How many batches the group in flight has tickets for.
+    pub(crate) fn in_flight(&self) -> usize
+        ensures { result ≡ length (tickets_in (flying self.now.group)) }
+    {
+        match &self.group {
+            Some(group) => group.tickets.len(),
+            None => 0,
+        }
+    }
+
+    /// How many batches the group in flight has still to hand over.
+    pub(crate) fn held(&self) -> usize
+        ensures { result ≡ length (batches_in (flying self.now.group)) }
+    {
+        match &self.group {
+            Some(group) => group.batches.len(),
+            None => 0,
+        }
+    }
+
+    /// Takes the memory for the outcomes of all that wait, of one batch more, and of the group in flight.
     pub(crate) fn reserve(&mut self) -> Result<(), AllocError>
+        requires { length (tickets_in (flying self.old.group)) ≤ 64 }
         ensures waiting { self.new.waiting ≡ self.old.waiting }
         ensures group { self.new.group ≡ self.old.group }
         ensures outcomes { self.new.outcomes.items ≡ self.old.outcomes.items }
         ensures last_ticket { self.new.last_ticket ≡ self.old.last_ticket }
         ensures job { self.new.job ≡ self.old.job }
+        ensures len { vec_len self.new.outcomes ≡ vec_len self.old.outcomes }
         ensures room { vec_capacity self.old.outcomes ≤ vec_capacity self.new.outcomes }
-        ensures ok { OnOk result (vec_len self.new.outcomes + 2 ≤ vec_capacity self.new.outcomes) }
+        ensures ok { OnOk result (vec_len self.new.outcomes + (length (tickets_in (flying self.old.group)) + length self.old.waiting + 1) ≤ vec_capacity self.new.outcomes) }
     {
-        self.outcomes.reserve(2)
+        let count = self.in_flight() + self.waiting.waiting() as usize + 1;
+        self.outcomes.reserve(count)
     }
 
     /// How many ops wait or are in flight and aren't handed to the log.
+    #[tactic(auto, using(crate::proofs::Lists::ops_counted))]
     pub(crate) fn ops_before(&self) -> u64
-        requires { ops_in (group_batch self.now.group) + ops_in (waiting_batch self.now.waiting) < 2 ^ 64 }
-        ensures { result ≡ ops_in (group_batch self.now.group) + ops_in (waiting_batch self.now.waiting) }
+        requires { count_ops (ops_of (batches_in (flying self.now.group))) + count_ops (ops_of (batches_of self.now.waiting)) < 2 ^ 64 }
+        ensures { result ≡ count_ops (ops_of (batches_in (flying self.now.group))) + count_ops (ops_of (batches_of self.now.waiting)) }
     {
-        let in_flight = match &self.group {
-            Some(group) => count_ops(&group.batch),
-            None => 0,
-        };
-        let waits = match &self.waiting {
-            Some(first) => first.batch.ops.len() as u64,
-            None => 0,
-        };
-        in_flight + waits
+        self.ops_held() + self.waiting.waiting_ops()
     }
 
-    /// The batch that the next append hands to the log.
-    pub(crate) fn next_batch(&self) -> Option<&Batch>
-        ensures { option_copied result ≡ batch_next self.now.waiting self.now.group }
+    // How many ops of the group in flight aren't handed to the log.
+    fn ops_held(&self) -> u64
+        requires { count_ops (ops_of (batches_in (flying self.now.group))) < 2 ^ 64 }
+        ensures { result ≡ count_ops (ops_of (batches_in (flying self.now.group))) }
     {
         match &self.group {
-            Some(group) => match &group.batch {
-                Some(batch) => Some(batch),
-                None => None,
-            },
-            None => match &self.waiting {
-                Some(first) => Some(&first.batch),
-                None => None,
-            },
+            Some(group) => count_ops(&group.batches),
+            None => 0,
+        }
+    }
+
+    /// The batches that the next append hands to the log.
+    pub(crate) fn next_batches(&self) -> &[Batch]
+        ensures batches { result.now ≡ batches_next self.now.waiting (flying self.now.group) }
+        ensures each { EachIsAdmissible (batches_in (flying self.now.group)) → EachIsAdmissible result.now }
+    {
+        match &self.group {
+            Some(group) => group.batches.as_slice(),
+            None => self.waiting.next(),
         }
     }
 
     /// Whether the group in flight is to be synced.
-    pub(crate) fn wants_sync(&self) -> bool
-        ensures { result ≡ wants_sync self.now.group }
+    pub(crate) fn is_synced(&self) -> bool
+        ensures { result ≡ is_synced (flying self.now.group) }
     {
         match &self.group {
             Some(group) => group.sync,
@@ -104,86 +123,131 @@ impl Queue {
         }
     }
 
-    /// Where no group is in flight, the batch that waits becomes one.
-    pub(crate) fn enter(&mut self)
-        requires { self.old.job ≤ 2 ^ 56 }
-        ensures waiting { self.new.waiting ≡ waiting_entered self.old.waiting self.old.group }
-        ensures group { self.new.group ≡ group_entered self.old.waiting self.old.group }
-        ensures job { self.new.job ≡ job_entered self.old.waiting self.old.group self.old.job }
-        ensures outcomes { self.new.outcomes ≡ self.old.outcomes }
-        ensures last_ticket { self.new.last_ticket ≡ self.old.last_ticket }
+    /// Takes the memory for a group that is to be formed, where none is in flight.
+    pub(crate) fn prepare(&self) -> Result<Formed, OutOfMemory>
+        ensures { IfOk result (HasRoom self.now.waiting (flying self.now.group)) }
     {
-        if self.group.is_some() {
-            return;
-        }
-        if let Some(first) = self.waiting.take() {
-            self.job += 1;
-            self.group = Some(Group {
-                ticket: first.ticket,
-                sync: first.batch.sync,
-                batch: Some(first.batch),
-            });
+        match &self.group {
+            Some(_) => {
+                let alloc = *self.outcomes.allocator();
+                Ok(Formed {
+                    batches: Vec::new(alloc),
+                    tickets: Vec::new(alloc),
+                    sync: false,
+                })
+            }
+            None => self.waiting.prepare(),
         }
     }
 
-    /// The batch of the group in flight is handed out.
-    pub(crate) fn take_batch(&mut self) -> Option<Batch>
-        ensures batch { result ≡ batch_of_group self.old.group }
-        ensures group { self.new.group ≡ without_batch self.old.group }
+    /// Where no group is in flight, the batches that wait form one in what was prepared.
+    pub(crate) fn enter(&mut self, prepared: Formed)
+        requires room { HasRoom self.old.waiting (flying self.old.group) prepared }
+        requires job { self.old.job ≤ 2 ^ 56 }
+        ensures waiting { self.new.waiting ≡ waiting_entered self.old.waiting (flying self.old.group) }
+        ensures group { flying self.new.group ≡ group_entered self.old.waiting (flying self.old.group) }
+        ensures job { self.new.job ≡ job_entered self.old.waiting (flying self.old.group) self.old.job }
+        ensures outcomes { self.new.outcomes ≡ self.old.outcomes }
+        ensures last_ticket { self.new.last_ticket ≡ self.old.last_ticket }
+        ensures each { EachIsAdmissible (batches_in (flying self.old.group)) → EachIsAdmissible (batches_in (flying self.new.group)) }
+        ensures few { length (tickets_in (flying self.old.group)) ≤ 64 → length (tickets_in (flying self.new.group)) ≤ 64 }
+    {
+        if self.group.is_some() || self.waiting.waiting() == 0 {
+            return;
+        }
+        let mut formed = prepared;
+        self.waiting.take_next(&mut formed);
+        let Formed {
+            batches,
+            tickets,
+            sync,
+        } = formed;
+        self.job += 1;
+        self.group = Some(Flight {
+            tickets,
+            batches,
+            sync,
+        });
+    }
+
+    /// The batches of the group in flight are handed out.
+    pub(crate) fn take_batches(&mut self) -> Vec<Batch>
+        ensures batches { result.items ≡ batches_in (flying self.old.group) }
+        ensures group { flying self.new.group ≡ without_batches (flying self.old.group) }
         ensures waiting { self.new.waiting ≡ self.old.waiting }
         ensures outcomes { self.new.outcomes ≡ self.old.outcomes }
         ensures last_ticket { self.new.last_ticket ≡ self.old.last_ticket }
         ensures job { self.new.job ≡ self.old.job }
     {
+        let alloc = *self.outcomes.allocator();
         match &mut self.group {
-            Some(group) => group.batch.take(),
-            None => None,
+            Some(group) => std::mem::replace(&mut group.batches, Vec::new(alloc)),
+            None => Vec::new(alloc),
         }
     }
 
-    /// The group in flight is over, with this outcome.
+    /// The group in flight is over: a call failed, and each of its batches has that outcome.
     pub(crate) fn settle(&mut self, outcome: Outcome)
-        requires { vec_len self.old.outcomes + one_if self.old.group ≤ vec_capacity self.old.outcomes }
+        requires { vec_len self.old.outcomes + length (tickets_in (flying self.old.group)) ≤ vec_capacity self.old.outcomes }
         ensures waiting { self.new.waiting ≡ self.old.waiting }
         ensures group { self.new.group ≡ None }
-        ensures outcomes { self.new.outcomes.items ≡ self.old.outcomes.items ++ group_settled outcome self.old.group }
-        ensures len { vec_len self.new.outcomes ≡ vec_len self.old.outcomes + one_if self.old.group }
+        ensures outcomes { self.new.outcomes.items ≡ self.old.outcomes.items ++ given outcome (tickets_in (flying self.old.group)) }
+        ensures len { vec_len self.new.outcomes ≡ vec_len self.old.outcomes + length (tickets_in (flying self.old.group)) }
         ensures last_ticket { self.new.last_ticket ≡ self.old.last_ticket }
         ensures job { self.new.job ≡ self.old.job }
         ensures room { vec_capacity self.new.outcomes ≡ vec_capacity self.old.outcomes }
     {
         if let Some(group) = self.group.take() {
-            self.outcomes.push_reserved((group.ticket, outcome));
+            give(&mut self.outcomes, &group.tickets, outcome);
         }
     }
 
-    /// The batch that waits is turned away, since this failure stands.
-    pub(crate) fn turn_away(&mut self, failure: Failure)
-        requires { vec_len self.old.outcomes + one_if self.old.waiting ≤ vec_capacity self.old.outcomes }
-        ensures waiting { self.new.waiting ≡ None }
-        ensures group { self.new.group ≡ self.old.group }
-        ensures outcomes { self.new.outcomes.items ≡ self.old.outcomes.items ++ waiting_settled (Outcome.Turned failure) self.old.waiting }
-        ensures len { vec_len self.new.outcomes ≡ vec_len self.old.outcomes + one_if self.old.waiting }
+    /// The group in flight is over: its batches are published, numbered on behind a sequence.
+    pub(crate) fn settle_done(&mut self, seq: u64, batches: &[Batch])
+        requires room { vec_len self.old.outcomes + length (tickets_in (flying self.old.group)) ≤ vec_capacity self.old.outcomes }
+        requires numbers { seq + count_ops (ops_of batches.now) < 2 ^ 64 }
+        ensures waiting { self.new.waiting ≡ self.old.waiting }
+        ensures group { self.new.group ≡ None }
+        ensures outcomes { self.new.outcomes.items ≡ self.old.outcomes.items ++ done_each seq (tickets_in (flying self.old.group)) (ops_of batches.now) }
+        ensures len { vec_len self.new.outcomes ≡ vec_len self.old.outcomes + length (tickets_in (flying self.old.group)) }
         ensures last_ticket { self.new.last_ticket ≡ self.old.last_ticket }
         ensures job { self.new.job ≡ self.old.job }
         ensures room { vec_capacity self.new.outcomes ≡ vec_capacity self.old.outcomes }
     {
-        if let Some(first) = self.waiting.take() {
-            self.outcomes
-                .push_reserved((first.ticket, Outcome::Turned(failure)));
+        if let Some(group) = self.group.take() {
+            give_done(&mut self.outcomes, &group.tickets, seq, batches);
         }
+    }
+
+    /// All that wait are turned away, since this failure stands.
+    pub(crate) fn turn_away(&mut self, failure: Failure)
+        requires { vec_len self.old.outcomes + length self.old.waiting ≤ vec_capacity self.old.outcomes }
+        ensures waiting { self.new.waiting ≡ [] }
+        ensures group { self.new.group ≡ self.old.group }
+        ensures outcomes { self.new.outcomes.items ≡ self.old.outcomes.items ++ given (Outcome.Turned failure) (tickets_of self.old.waiting) }
+        ensures len { vec_len self.new.outcomes ≡ vec_len self.old.outcomes + length self.old.waiting }
+        ensures last_ticket { self.new.last_ticket ≡ self.old.last_ticket }
+        ensures job { self.new.job ≡ self.old.job }
+        ensures room { vec_capacity self.new.outcomes ≡ vec_capacity self.old.outcomes }
+    {
+        give(
+            &mut self.outcomes,
+            self.waiting.tickets(),
+            Outcome::Turned(failure),
+        );
+        drop_all(&mut self.waiting);
     }
 
     /// What is told of a ticket. An outcome is handed out once.
     pub(crate) fn take_outcome(&mut self, ticket: u64) -> Outcome
-        ensures outcome { result ≡ outcome_told ticket self.old.outcomes.items self.old.group self.old.waiting }
+        ensures outcome { result ≡ outcome_told ticket self.old.outcomes.items (flying self.old.group) self.old.waiting }
         ensures waiting { self.new.waiting ≡ self.old.waiting }
         ensures group { self.new.group ≡ self.old.group }
         ensures outcomes { self.new.outcomes.items ≡ filter (λ entry. not (entry.0 == ticket)) self.old.outcomes.items }
+        ensures len { vec_len self.new.outcomes ≤ vec_len self.old.outcomes }
         ensures last_ticket { self.new.last_ticket ≡ self.old.last_ticket }
         ensures job { self.new.job ≡ self.old.job }
         ensures room { vec_capacity self.new.outcomes ≡ vec_capacity self.old.outcomes }
-        ensures len { vec_len self.new.outcomes ≤ vec_len self.old.outcomes }
     {
         let kept = kept_outcome(&self.outcomes, ticket);
         forget(&mut self.outcomes, ticket);
@@ -201,27 +265,75 @@ impl Queue {
 
     // Whether the ticket's batch waits, or its group is in flight.
     fn is_on_its_way(&self, ticket: u64) -> bool
-        ensures { result ≡ on_its_way ticket self.now.group self.now.waiting }
+        ensures { result ≡ on_its_way ticket (flying self.now.group) self.now.waiting }
     {
         let in_flight = match &self.group {
-            Some(group) => group.ticket == ticket,
+            Some(group) => is_among(&group.tickets, ticket),
             None => false,
         };
-        let waits = match &self.waiting {
-            Some(first) => first.ticket == ticket,
-            None => false,
-        };
-        in_flight || waits
+        in_flight || is_among(self.waiting.tickets(), ticket)
     }
 }
 
-fn count_ops(batch: &Option<Batch>) -> u64
-    ensures { result ≡ ops_in batch.now }
+fn is_among(tickets: &[u64], ticket: u64) -> bool
+    ensures { result ≡ list_any (λ other. other == ticket) tickets.now }
 {
-    match batch {
-        Some(batch) => batch.ops.len() as u64,
-        None => 0,
+    tickets.iter().any(|other| *other == ticket)
+}
+
+pub(crate) fn count_ops(batches: &[Batch]) -> u64
+    requires { count_ops (ops_of batches.now) < 2 ^ 64 }
+    ensures { result ≡ count_ops (ops_of batches.now) }
+{
+    let mut total = 0;
+    for batch in batches {
+        total += batch.ops.len() as u64;
     }
+    total
+}
+
+// Each of these tickets gets this outcome.
+fn give(outcomes: &mut Vec<(u64, Outcome)>, tickets: &[u64], outcome: Outcome)
+    requires { vec_len outcomes.old + length tickets.now ≤ vec_capacity outcomes.old }
+    ensures items { outcomes.new.items ≡ outcomes.old.items ++ given outcome tickets.now }
+    ensures len { vec_len outcomes.new ≡ vec_len outcomes.old + length tickets.now }
+    ensures room { vec_capacity outcomes.new ≡ vec_capacity outcomes.old }
+{
+    for ticket in tickets {
+        outcomes.push_reserved((*ticket, outcome));
+    }
+}
+
+// Each of these tickets gets the number of its batch's last op, behind a sequence.
+fn give_done(outcomes: &mut Vec<(u64, Outcome)>, tickets: &[u64], seq: u64, batches: &[Batch])
+    requires room { vec_len outcomes.old + length tickets.now ≤ vec_capacity outcomes.old }
+    requires numbers { seq + count_ops (ops_of batches.now) < 2 ^ 64 }
+    ensures items { outcomes.new.items ≡ outcomes.old.items ++ done_each seq tickets.now (ops_of batches.now) }
+    ensures len { vec_len outcomes.new ≡ vec_len outcomes.old + length tickets.now }
+    ensures room { vec_capacity outcomes.new ≡ vec_capacity outcomes.old }
+{
+    let mut last = seq;
+    for (index, ticket) in tickets.iter().enumerate() {
+        last = seq_behind(last, batches, index);
+        outcomes.push_reserved((*ticket, Outcome::Done { seq: last }));
+    }
+}
+
+// The sequence behind the batch at that index, where there is one.
+fn seq_behind(seq: u64, batches: &[Batch], index: usize) -> u64
+    requires { seq + count_ops (ops_of (drop index batches.now)) < 2 ^ 64 }
+    ensures { result ≡ seq_behind seq (ops_of (drop index batches.now)) }
+{
+    match batches.get(index) {
+        Some(batch) => seq + batch.ops.len() as u64,
+        None => seq,
+    }
+}
+
+fn drop_all(waiting: &mut Group)
+    ensures { waiting.new ≡ [] }
+{
+    'dropping: while waiting.pop().is_some() {}
 }
 
 // The outcome that is kept for a ticket.

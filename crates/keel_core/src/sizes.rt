@@ -1,9 +1,9 @@
 // Whether a batch is within its limits.
 ghost use Rattle.std.specs.Prelude.{◌≡◌, ◌≤◌, not, nat_lt, None, length};
-ghost use Rattle.keel_machine.specs.Admission.{is_key_length, op_refusal as refusal_of_op, ops_refusal as refusal_of_ops, size_refusal as refusal_of_size, weight_of};
+ghost use Rattle.keel_machine.specs.Admission.{is_key_length, op_refusal as refusal_of_op, ops_refusal as refusal_of_ops, size_refusal as refusal_of_size};
 ghost use Rattle.keel_machine.specs.Tests.{when};
 
-use keel_base::{Batch, Op, weight};
+use keel_base::{Batch, Op, ops_weight};
 use keel_machine::{Admit, Part};
 
 const LONGEST_KEY: usize = 1024;
@@ -27,7 +27,7 @@ pub(crate) fn size_refusal(batch: &Batch) -> Option<Admit>
     if length == 0 || length > MOST_OPS {
         return Some(bad_batch(length as u64));
     }
-    let weight = whole_weight(ops);
+    let weight = ops_weight(ops);
     if weight > GREATEST_WEIGHT {
         return Some(bad_batch(weight));
     }
@@ -91,16 +91,4 @@ fn value_refusal(length: usize) -> Option<Admit>
     } else {
         None
     }
-}
-
-fn whole_weight(ops: &[Op]) -> u64
-    requires within { refusal_of_ops ops.now ≡ None }
-    requires few { length ops.now ≤ 1000 }
-    ensures { result ≡ weight_of ops.now }
-{
-    let mut total = 0;
-    for op in ops {
-        total += weight(op);
-    }
-    total
 }

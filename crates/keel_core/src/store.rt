@@ -10,11 +10,12 @@ ghost use Rattle.keel_core.specs.Views.{Turns, point_in, calls_left, with_told};
 
 use crate::log::OwnLog;
 use crate::lookup::{latest_value, value_read};
-use crate::queue::{Queue, Ticketed};
+use crate::queue::Queue;
 use crate::sizes::size_refusal;
 use crate::trail::Trail;
 use keel_base::{Batch, Bytes, Counter, Failure, Listing, OutOfMemory};
 use keel_disk::{Device, Disk, DiskError, Rule};
+use keel_group::{Joined, MAX_WAITING};
 use keel_machine::{Admit, Got, Outcome};
 use std::alloc::Global;
 use std::marker::Model;
@@ -39,6 +40,7 @@ pub struct Core<D: Disk> {
 impl<D: Disk> Model for Core<D> {
     ghost use Rattle.keel_machine.specs.Outside.{seen};
     ghost use Rattle.keel_core.specs.Orders.{IsInOrder};
+    ghost use Rattle.keel_core.specs.Flights.{flying};
     ghost use Rattle.keel_core.specs.Trails.{shown};
     ghost use Rattle.keel_core.specs.Views.{CoreView};
 
@@ -49,7 +51,7 @@ impl<D: Disk> Model for Core<D> {
       trail = shown c.trail;
       stage = c.log;
       waiting = c.queue.waiting;
-      group = c.queue.group;
+      group = flying c.queue.group;
       outcomes = c.queue.outcomes.items;
       last_ticket = c.queue.last_ticket;
       job = c.queue.job;
@@ -93,16 +95,23 @@ impl<D: Disk> Core<D> {
         if self.queue.last_ticket >= LAST_NUMBER {
             return Admit::Spent(Counter::Ticket);
         }
-        if self.queue.waiting.is_some() {
-            return Admit::QueueFull { waiting: 1 };
+        let waiting = self.queue.waiting.waiting();
+        if waiting >= MAX_WAITING {
+            return Admit::QueueFull { waiting };
         }
-        if self.trail.reserve(2).is_err() || self.queue.reserve().is_err() {
+        let held = self.queue.held() + waiting as usize;
+        if self.trail.reserve(held + 1).is_err() || self.queue.reserve().is_err() {
             return Admit::OutOfMemory;
         }
         let ticket = self.queue.last_ticket + 1;
-        self.queue.last_ticket = ticket;
-        self.queue.waiting = Some(Ticketed { ticket, batch });
-        Admit::Queued { ticket }
+        match self.queue.waiting.join(ticket, batch) {
+            Joined::Queued => {
+                self.queue.last_ticket = ticket;
+                Admit::Queued { ticket }
+            }
+            Joined::QueueFull { waiting } => Admit::QueueFull { waiting },
+            Joined::OutOfMemory => Admit::OutOfMemory,
+        }
     }
 
     /// What became of a ticket. An outcome is handed out once.

@@ -1,5 +1,5 @@
 // The batches that the opening read, and those since.
-ghost use Rattle.std.specs.Prelude.{◌≡◌, ◌+◌, ◌<◌, ◌≤◌, vec_len, vec_capacity, OnOk};
+ghost use Rattle.std.specs.Prelude.{◌≡◌, ◌+◌, ◌≤◌, ◌++◌, length, vec_len, vec_capacity, OnOk};
 
 use keel_base::{Batch, Sequence};
 use keel_batch::Numbered;
@@ -68,14 +68,15 @@ impl Trail {
         self.batches.reserve(count)
     }
 
-    /// A batch was handed to the log.
-    pub(crate) fn hand(&mut self, batch: Batch)
-        requires { vec_len self.old.batches < vec_capacity self.old.batches }
-        ensures shown { shown self.new ≡ handed batch (shown self.old) }
-        ensures count { vec_len self.new.batches ≡ vec_len self.old.batches + 1 }
-        ensures room { vec_capacity self.new.batches ≡ vec_capacity self.old.batches }
+    /// Batches were handed to the log.
+    pub(crate) fn hand(&mut self, batches: Vec<Batch>)
+        requires { vec_len self.old.batches + length batches.items ≤ vec_capacity self.old.batches }
+        ensures shown { shown self.new ≡ handed batches.items (shown self.old) }
+        ensures count { vec_len self.new.batches ≡ vec_len self.old.batches + length batches.items }
+        ensures room { vec_capacity self.old.batches ≤ vec_capacity self.new.batches }
     {
-        self.batches.push_reserved(batch);
+        let mut batches = batches;
+        let _ = self.batches.append(&mut batches);
     }
 
     /// What is in limbo is published. Behind a sync none of it must be lost.

@@ -1,16 +1,21 @@
 // The write step: groups go to the log, one call of the device a step, and are published.
-ghost use Rattle.std.specs.Prelude.{◌≡◌, IfNone, IfSome, IfOk, IsSome};
+ghost use Rattle.std.specs.Prelude.{◌≡◌, ◌≢◌, ◌+◌, ◌≤◌, ◌^◌, [], length, IfNone, IfSome, IfOk};
+ghost use Rattle.keel_frag.specs.Writing.{records_bytes};
+ghost use Rattle.keel_group.specs.Forming.{EachIsAdmissible};
+ghost use Rattle.keel_machine.specs.Admission.{count_ops, ops_of};
 ghost use Rattle.keel_machine.specs.Turns.{Writing};
+ghost use Rattle.keel_machine.specs.Writing.{payloads_from};
 ghost use Rattle.keel_machine.specs.WritingAfter.{failure_of};
 ghost use Rattle.keel_core.specs.declared.log.OwnLog.TheVariants as stage;
 ghost use Rattle.keel_core.specs.Orders.{IsReady};
-ghost use Rattle.keel_core.specs.Queues.{batch_next, wants_sync};
+ghost use Rattle.keel_core.specs.Queues.{batches_next, is_synced, tickets_in};
 ghost use Rattle.keel_core.specs.Steps.{file_rest, next_bytes, NumberIs, IsGone, handed_over, all_published, rested, stopped};
 ghost use Rattle.keel_core.specs.Views.{Turns, MakesCall, ComesNearer, CanGoOn, IsRest, Finds, rest_of, point_in};
 
 use crate::log::OwnLog;
+use crate::queue::count_ops;
 use crate::store::{Core, LAST_NUMBER};
-use keel_base::{Bytes, Call, Counter, Failure, Fault, FileName, OutOfMemory, Reason};
+use keel_base::{Batch, Bytes, Call, Counter, Failure, Fault, FileName, OutOfMemory, Reason};
 use keel_batch::encode;
 use keel_disk::{Disk, DiskError};
 use keel_frag::write_record;
@@ -18,7 +23,7 @@ use keel_machine::{Outcome, WriteStep};
 use std::alloc::Global;
 
 impl<D: Disk> Core<D> {
-    /// Makes the next call of the group in flight, or the first one of the group that the queue's first batch makes.
+    /// Makes the next call of the group in flight, or the first one of the queue's next group.
     /// `held` is the number of the group that the caller goes on with, where it holds one.
     pub fn write_step(&mut self, alloc: Global, held: Option<u64>) -> WriteStep
         ensures turn { Turns self.old (Writing held result) self.new }
@@ -59,14 +64,12 @@ impl<D: Disk> Core<D> {
         if self.queue.group.is_some() {
             return self.file_rest();
         }
-        if self.queue.waiting.is_none() {
+        let batches = self.queue.waiting.waiting();
+        if batches == 0 {
             return Some(WriteStep::Idle);
         }
         if let Some(failure) = self.standing {
-            return Some(WriteStep::Turned {
-                batches: 1,
-                failure,
-            });
+            return Some(WriteStep::Turned { batches, failure });
         }
         if self.queue.job >= LAST_NUMBER {
             return Some(WriteStep::Spent(Counter::JobNumber));
@@ -96,10 +99,10 @@ impl<D: Disk> Core<D> {
             OwnLog::Absent => self.make_log(alloc),
             OwnLog::Created { number } => self.sync_directory(alloc, number),
             OwnLog::Ready { number, size } => {
-                if self.queue.next_batch().is_some() {
-                    self.add_records(alloc, number, size)
-                } else {
+                if self.queue.next_batches().is_empty() {
                     self.sync_log(alloc, number)
+                } else {
+                    self.add_records(alloc, number, size)
                 }
             }
         }
@@ -111,10 +114,13 @@ impl<D: Disk> Core<D> {
         ensures turn { MakesCall self.old result self.new }
         ensures nearer { ComesNearer self.old result self.new }
     {
+        let Ok(prepared) = self.queue.prepare() else {
+            return WriteStep::OutOfMemory;
+        };
         let number = self.next_file;
         match self.disk.create(alloc, FileName::Log(number)) {
             Ok(()) => {
-                self.queue.enter();
+                self.queue.enter(prepared);
                 self.next_file = number + 1;
                 self.log = OwnLog::Created { number };
                 WriteStep::Moved {
@@ -123,7 +129,7 @@ impl<D: Disk> Core<D> {
                 }
             }
             Err(DiskError::Fault(fault)) => {
-                self.queue.enter();
+                self.queue.enter(prepared);
                 self.next_file = number + 1;
                 self.fail(fault)
             }
@@ -153,10 +159,13 @@ impl<D: Disk> Core<D> {
     fn add_records(&mut self, alloc: Global, number: u64, size: u64) -> WriteStep
         requires stage { self.old.stage ≡ stage.Ready number size }
         requires can { CanGoOn self.old }
-        requires some { IsSome (batch_next self.old.waiting self.old.group) }
+        requires some { batches_next self.old.waiting self.old.group ≢ [] }
         ensures turn { MakesCall self.old result self.new }
         ensures nearer { ComesNearer self.old result self.new }
     {
+        let Ok(prepared) = self.queue.prepare() else {
+            return WriteStep::OutOfMemory;
+        };
         let Ok(bytes) = self.record_bytes(alloc, size) else {
             return WriteStep::OutOfMemory;
         };
@@ -172,7 +181,7 @@ impl<D: Disk> Core<D> {
                     number,
                     size: behind,
                 };
-                self.queue.enter();
+                self.queue.enter(prepared);
                 if self.hand_over() {
                     WriteStep::Moved {
                         job: self.queue.job,
@@ -183,7 +192,7 @@ impl<D: Disk> Core<D> {
                 }
             }
             Err(DiskError::Fault(fault)) => {
-                self.queue.enter();
+                self.queue.enter(prepared);
                 let _ = self.hand_over();
                 self.fail(fault)
             }
@@ -191,18 +200,11 @@ impl<D: Disk> Core<D> {
         }
     }
 
-    // The bytes that the next group appends.
+    // The bytes that the next group appends: a record for each batch.
     fn record_bytes(&self, alloc: Global, size: u64) -> Result<Bytes, OutOfMemory>
-        requires { IsSome (batch_next self.now.waiting self.now.group) }
         ensures { IfOk result (λ bytes. bytes ≡ next_bytes self.now size) }
     {
-        let Some(batch) = self.queue.next_batch() else {
-            return Ok(Bytes::new(alloc));
-        };
-        let Ok(payload) = encode(alloc, self.last_seq + 1, batch) else {
-            return Err(OutOfMemory);
-        };
-        write_record(alloc, size, payload.as_slice())
+        records_of(alloc, size, self.last_seq + 1, self.queue.next_batches())
     }
 
     fn sync_log(&mut self, alloc: Global, number: u64) -> WriteStep
@@ -218,17 +220,16 @@ impl<D: Disk> Core<D> {
         }
     }
 
-    // The batch of the group in flight was handed to the log. Says whether it is to be synced.
+    // The batches of the group in flight were handed to the log. Says whether it is to be synced.
     fn hand_over(&mut self) -> bool
         requires { IsReady self.old.stage }
         ensures view { self.new ≡ handed_over self.old }
-        ensures sync { result ≡ wants_sync self.old.group }
+        ensures sync { result ≡ is_synced self.old.group }
     {
-        let sync = self.queue.wants_sync();
-        if let Some(batch) = self.queue.take_batch() {
-            self.handed_seq += batch.ops.len() as u64;
-            self.trail.hand(batch);
-        }
+        let sync = self.queue.is_synced();
+        let batches = self.queue.take_batches();
+        self.handed_seq += count_ops(&batches);
+        self.trail.hand(batches);
         sync
     }
 
@@ -236,16 +237,16 @@ impl<D: Disk> Core<D> {
     fn publish(&mut self, sync: bool) -> WriteStep
         requires { IsReady self.old.stage }
         ensures view { self.new ≡ all_published sync self.old }
-        ensures step { result ≡ WriteStep.Done self.old.job (point_in self.new).seq 1 }
+        ensures step { result ≡ WriteStep.Done self.old.job (point_in self.new).seq (length (tickets_in self.old.group)) }
     {
+        let batches = self.queue.in_flight() as u32;
+        self.queue.settle_done(self.last_seq, self.trail.limbo());
         self.trail.publish(sync);
         self.last_seq = self.handed_seq;
-        let seq = self.last_seq;
-        self.queue.settle(Outcome::Done { seq });
         WriteStep::Done {
             job: self.queue.job,
-            seq,
-            batches: 1,
+            seq: self.last_seq,
+            batches,
         }
     }
 
@@ -263,4 +264,30 @@ impl<D: Disk> Core<D> {
         self.standing = self.standing.or(Some(failure));
         WriteStep::Failed(failure)
     }
+}
+
+// The records of batches that are numbered from a sequence on, behind so many bytes of a log.
+fn records_of(
+    alloc: Global,
+    size: u64,
+    first: u64,
+    batches: &[Batch],
+) -> Result<Bytes, OutOfMemory>
+    requires each { EachIsAdmissible batches.now }
+    requires numbers { first + count_ops (ops_of batches.now) ≤ 2 ^ 56 + 1 }
+    requires some { 1 ≤ first }
+    ensures { IfOk result (λ bytes. bytes ≡ records_bytes size (payloads_from first batches.now)) }
+{
+    let mut bytes = Bytes::new(alloc);
+    let mut seq = first;
+    for batch in batches {
+        let payload = encode(alloc, seq, batch)?;
+        let Some(place) = size.checked_add(bytes.len() as u64) else {
+            return Err(OutOfMemory);
+        };
+        let record = write_record(alloc, place, payload.as_slice())?;
+        bytes.extend(record.as_slice())?;
+        seq += batch.ops.len() as u64;
+    }
+    Ok(bytes)
 }

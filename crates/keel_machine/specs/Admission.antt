@@ -6,7 +6,8 @@ use Rattle.keel_base.specs.declared.failure.Counter.TheVariants.{Sequence, Ticke
 use Rattle.keel_base.specs.declared.op.Batch.{Batch}
 use Rattle.keel_base.specs.declared.op.Op.{Op}
 use Rattle.keel_base.specs.declared.op.Op.TheVariants.{Put, Del}
-use Rattle.keel_base.specs.Weight.{weight}
+use Rattle.keel_base.specs.Weight.{weight_of}
+use Rattle.keel_group.specs.declared.formed.TheConstants.{MAX_WAITING}
 use Rattle.keel_machine.specs.declared.answers.Admit.{Admit}
 use Rattle.keel_machine.specs.declared.answers.Admit.TheVariants.{Queued, BadSize, Stopped, Spent, QueueFull, OutOfMemory}
 use Rattle.keel_machine.specs.declared.answers.Part.TheVariants.{Key, Value}
@@ -53,10 +54,6 @@ ops_on_their_way s =
 abbrev pub seq_with : State → Batch → ℕ
 seq_with s batch = last_seq s + ops_on_their_way s + length batch.ops
 
--- how many batches may wait
-abbrev pub most_waiting : ℕ
-most_waiting = 1
-
 -- ---- sizes
 
 abbrev pub is_key_length : ℕ → Bool
@@ -75,10 +72,6 @@ abbrev pub ops_refusal : List Op → Option Admit
 ops_refusal [] = None
 ops_refusal (op ∷ ops) = first_some (op_refusal op ∷ ops_refusal ops ∷ [])
 
-abbrev pub weight_of : List Op → ℕ
-weight_of [] = 0
-weight_of (op ∷ ops) = weight op + weight_of ops
-
 -- the ops in order, then their count, then their weight
 abbrev pub size_refusal : Batch → Option Admit
 size_refusal batch = first_some (
@@ -96,7 +89,7 @@ refusal s batch = first_some (
     ∷ option_map Stopped (standing s)
     ∷ when (nat_lt (2 ^ 56) (seq_with s batch)) (Spent Sequence)
     ∷ when (nat_le (2 ^ 56) s.writing.last_ticket) (Spent Ticket)
-    ∷ when (nat_le most_waiting (length s.writing.waiting)) (QueueFull (length s.writing.waiting))
+    ∷ when (nat_le MAX_WAITING (length s.writing.waiting)) (QueueFull (length s.writing.waiting))
     ∷ [])
 
 -- the batch waits, under the next ticket

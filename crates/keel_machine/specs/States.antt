@@ -6,6 +6,7 @@ use Rattle.keel_base.specs.declared.failure.Failure.{Failure}
 use Rattle.keel_base.specs.declared.op.Batch.{Batch}
 use Rattle.keel_base.specs.declared.op.Op.{Op}
 use Rattle.keel_disk.specs.Told.{Told}
+use Rattle.keel_group.specs.Queue.{Ticketed}
 use Rattle.keel_machine.specs.declared.answers.Outcome.{Outcome}
 
 -- what a device shows, and whether failures and crashes can be arranged on it
@@ -47,11 +48,6 @@ cut_story count story = record { start = story.start; log = take count (story.lo
 -- the point that the published batches lead to
 abbrev pub point_of : Story → Point
 point_of story = fold_batches story.start story.log
-
--- a batch that waits, under its ticket
-pub record Ticketed : Type 0 where
-  pub ticket : ℕ
-  pub batch : Batch
 
 pub record Writing : Type 0 where
   pub waiting : List Ticketed

@@ -11,12 +11,13 @@ use Rattle.keel_reading.specs.declared.replay.Found.{Found}
 use Rattle.keel_machine.specs.declared.answers.Admit.{Admit}
 use Rattle.keel_machine.specs.declared.answers.Got.{Got}
 use Rattle.keel_machine.specs.declared.answers.Outcome.{Outcome}
+use Rattle.keel_machine.specs.declared.answers.Scanned.{Scanned}
 use Rattle.keel_machine.specs.declared.steps.WriteStep.{WriteStep}
 use Rattle.keel_machine.specs.Admission.{AdmitAnswers, admit_after, outcome_of, without_outcome}
 use Rattle.keel_machine.specs.Crash.{CrashAnswers, crash_after}
 use Rattle.keel_machine.specs.Opening.{OpenAnswers, open_after, finished}
 use Rattle.keel_machine.specs.Outside.{IsQuiet}
-use Rattle.keel_machine.specs.Reads.{GetAnswers}
+use Rattle.keel_machine.specs.Reads.{GetAnswers, ScanAnswers}
 use Rattle.keel_machine.specs.States.{State, Seen, with_device}
 use Rattle.keel_machine.specs.WritingAfter.{WriteAnswers, write_after}
 
@@ -27,6 +28,7 @@ pub data Event : Type 0 where
   Writing : Option ℕ → WriteStep → Event
   TakingOutcome : ℕ → Outcome → Event
   Getting : List ℕ → Got → Event
+  Scanning : List ℕ → List ℕ → Scanned → Event
   Listing : Result (List Entry) DiskError → Event
   -- what is left of the story, where anything is known of it
   Crashing : Option ℕ → Event
@@ -45,6 +47,7 @@ Answers s (Admitting batch answer) device = AdmitAnswers s batch answer × (devi
 Answers s (Writing held step) device = WriteAnswers s held step device
 Answers s (TakingOutcome ticket outcome) device = (outcome ≡ outcome_of s ticket) × (device ≡ s.device)
 Answers s (Getting key got) device = GetAnswers s key got × IsQuiet s.device None device
+Answers s (Scanning from to scanned) device = ScanAnswers s from to scanned × IsQuiet s.device None device
 Answers s (Listing answer) device = ListAnswers s answer device
 Answers s (Crashing kept) device = CrashAnswers s kept device
 Answers s Finishing device = device ≡ s.device
@@ -56,6 +59,7 @@ behind s (Admitting batch answer) = admit_after s batch answer
 behind s (Writing held step) = write_after s step
 behind s (TakingOutcome ticket outcome) = without_outcome ticket s
 behind s (Getting key got) = s
+behind s (Scanning from to scanned) = s
 behind s (Listing answer) = s
 behind s (Crashing kept) = crash_after s kept
 behind s Finishing = finished s

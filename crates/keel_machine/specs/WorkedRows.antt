@@ -1,12 +1,13 @@
 -- Runs of which every call is answered Ok, worked out.
-use Rattle.std.specs.Prelude.{◌≡◌, ℕ, zero, suc, true, List, [], ◌∷◌, length, Option, Some, None}
+use Rattle.std.specs.Prelude.{◌≡◌, ℕ, zero, suc, true, false, List, [], ◌∷◌, length, Option, Some, None}
 use Rattle.keel_base.specs.declared.failure.Call.TheVariants as call
 use Rattle.keel_base.specs.declared.op.Batch.{Batch}
 use Rattle.keel_base.specs.declared.op.Op.TheVariants as op
 use Rattle.keel_machine.specs.declared.answers.Outcome.TheVariants as outcome
 use Rattle.keel_machine.specs.declared.steps.WriteStep.{WriteStep}
 use Rattle.keel_machine.specs.declared.steps.WriteStep.TheVariants.{Idle, Moved, Done}
-use Rattle.keel_machine.specs.Admission.{queued, last_seq, outcome_of}
+use Rattle.keel_machine.specs.declared.answers.Admit.TheVariants.{QueueFull}
+use Rattle.keel_machine.specs.Admission.{queued, last_seq, outcome_of, refusal}
 use Rattle.keel_reading.specs.declared.replay.Found.{Found}
 use Rattle.keel_machine.specs.Opening.{opened}
 use Rattle.keel_machine.specs.States.{State, Group, Act, Unopened}
@@ -63,3 +64,20 @@ abbrev pub SecondPut : Type 0
 SecondPut =
     (s : State) → let s1 : State = queued (synced_put 98 50) (behind_steps 4 (queued (synced_put 97 49) (new_store s))) in
     answers 3 s1 ≡ Moved 2 call.Append ∷ Done 2 2 1 ∷ Idle ∷ []
+
+-- so many batches are queued, one like another
+abbrev pub queued_times : ℕ → Batch → State → State
+queued_times zero batch s = s
+queued_times (suc n) batch s = queued batch (queued_times n batch s)
+
+-- a put that isn't synced
+abbrev pub plain_put : Batch
+plain_put = record { ops = op.Put (97 ∷ []) (49 ∷ []) ∷ []; sync = false }
+
+-- Of 65 puts at once the last is turned away, and the others are one group, whose last call is its append.
+abbrev pub FullQueue : Type 0
+FullQueue =
+    (s : State) → let s1 : State = queued_times 64 plain_put (new_store s) in
+    (refusal s1 plain_put ≡ Some (QueueFull 64))
+    × (answers 4 s1 ≡ Moved 1 call.Create ∷ Moved 1 call.SyncDir ∷ Done 1 64 64 ∷ Idle ∷ [])
+    × (outcome_of (behind_steps 3 s1) 2 ≡ outcome.Done 2)

@@ -1,5 +1,5 @@
 -- The write step: when it rests, and the call that it makes.
-use Rattle.std.specs.Prelude.{ℕ, ◌+◌, ◌^◌, ◌==◌, nat_le, not, ◌&&◌, Bool, true, false, List, [], ◌∷◌, ◌++◌, length, Option, Some, None, if◌then◌else◌, option_map, unwrap_or, is_some}
+use Rattle.std.specs.Prelude.{ℕ, ◌+◌, ◌^◌, ◌==◌, nat_le, not, ◌&&◌, Bool, true, false, List, [], ◌∷◌, ◌++◌, length, take, drop, Option, Some, None, if◌then◌else◌, option_map, unwrap_or, is_some}
 use Rattle.keel_base.specs.declared.failure.Call.{Call}
 use Rattle.keel_base.specs.declared.failure.Call.TheVariants as call
 use Rattle.keel_base.specs.declared.failure.Counter.TheVariants.{FileNumber, JobNumber}
@@ -10,10 +10,12 @@ use Rattle.keel_batch.specs.Spelling.{spelling}
 use Rattle.keel_disk.specs.declared.change.Change.{Change}
 use Rattle.keel_disk.specs.declared.change.Change.TheVariants as change
 use Rattle.keel_frag.specs.Writing.{records_bytes}
+use Rattle.keel_group.specs.Queue.{Ticketed, tickets_of}
+use Rattle.keel_group.specs.Forming.{next_size, next_batches, wants_sync}
 use Rattle.keel_machine.specs.declared.steps.WriteStep.{WriteStep}
 use Rattle.keel_machine.specs.declared.steps.WriteStep.TheVariants.{Idle, Turned, Spent, Cancelled}
 use Rattle.keel_machine.specs.Admission.{standing, last_seq}
-use Rattle.keel_machine.specs.States.{State, OwnLog, Ticketed, Group, Act, MakeLog, SyncDirectory, AddRecords, SyncLog}
+use Rattle.keel_machine.specs.States.{State, OwnLog, Group, Act, MakeLog, SyncDirectory, AddRecords, SyncLog}
 use Rattle.keel_machine.specs.Tests.{first_some, when, differing}
 
 -- ---- groups
@@ -23,21 +25,21 @@ abbrev pub group_plan : Bool → Bool → List Act
 group_plan has_log sync =
     (if has_log then [] else MakeLog ∷ SyncDirectory ∷ []) ++ AddRecords ∷ (if sync then SyncLog ∷ [] else [])
 
--- a group is one batch
-abbrev pub formed : Ticketed → State → Group
-formed member s = record {
-  tickets = member.ticket ∷ [];
-  batches = member.batch ∷ [];
+-- the next group of those that wait
+abbrev pub formed : List Ticketed → State → Group
+formed waiting s = record {
+  tickets = take (next_size waiting) (tickets_of waiting);
+  batches = next_batches waiting;
   log = None;
-  left = group_plan (is_some s.log) member.batch.sync;
+  left = group_plan (is_some s.log) (wants_sync (next_batches waiting));
 }
 
--- the group of the queue's first batch is in flight
+-- the queue's next group is in flight
 abbrev pub started : List Ticketed → State → State
 started [] s = s
 started (first ∷ rest) s = record s {
-  jobs = record { write = record { number = s.jobs.write.number + 1; running = Some (formed first s) } };
-  writing = record s.writing { waiting = rest };
+  jobs = record { write = record { number = s.jobs.write.number + 1; running = Some (formed (first ∷ rest) s) } };
+  writing = record s.writing { waiting = drop (next_size (first ∷ rest)) (first ∷ rest) };
 }
 
 abbrev pub started_or : Option Group → State → State

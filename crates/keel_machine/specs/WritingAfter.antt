@@ -1,5 +1,5 @@
 -- What a write step answers behind its call, and what it leaves.
-use Rattle.std.specs.Prelude.{◌≡◌, ℕ, ◌+◌, Bool, true, false, List, [], ◌∷◌, ◌++◌, length, map, Option, Some, None, if◌then◌else◌}
+use Rattle.std.specs.Prelude.{◌≡◌, ℕ, ◌+◌, Bool, true, false, List, [], ◌∷◌, ◌++◌, length, map, drop, Option, Some, None, if◌then◌else◌}
 use Rattle.keel_base.specs.declared.failure.Call.{Call}
 use Rattle.keel_base.specs.declared.failure.Fault.{Fault}
 use Rattle.keel_base.specs.declared.failure.Failure.{Failure}
@@ -36,11 +36,23 @@ story_published sync story = record {
   floor = if sync then length (story.log ++ story.limbo) else story.floor;
 }
 
--- the group's batches are published, and the group is over
+-- the sequence behind the first of these batches, where there is one
+abbrev pub seq_behind : ℕ → List (List Op) → ℕ
+seq_behind seq [] = seq
+seq_behind seq (ops ∷ batches) = seq + length ops
+
+-- each ticket's batch is done with the sequence of its last op, where the batches are numbered on behind a sequence
+abbrev pub done_each : ℕ → List ℕ → List (List Op) → List (ℕ × Outcome)
+done_each seq [] batches = []
+done_each seq (ticket ∷ tickets) batches =
+    (ticket, outcome.Done (seq_behind seq batches)) ∷ done_each (seq_behind seq batches) tickets (drop 1 batches)
+
+-- the group's batches, which are in limbo, are published, and the group is over
 abbrev pub published : Bool → Group → State → State
-published sync group s =
-    let s1 : State = with_group None (record s { story = story_published sync s.story }) in
-    settled group.tickets (outcome.Done (last_seq s1)) s1
+published sync group s = with_group None (record s {
+  story = story_published sync s.story;
+  writing = record s.writing { outcomes = s.writing.outcomes ++ done_each (last_seq s) group.tickets s.story.limbo };
+})
 
 -- the group goes on with the calls that are left, or is published behind the last one
 abbrev pub goes_on : Bool → Group → List Act → State → State

@@ -1,5 +1,5 @@
 // The answers of the calls that aren't steps.
-use keel_base::{Bytes, Counter, Failure};
+use keel_base::{Bytes, Counter, Failure, Rows};
 
 /// Whether a batch is taken in. Only a queued batch changes anything.
 #[derive(Clone, Copy, Debug)]
@@ -48,5 +48,13 @@ pub enum Outcome {
 pub enum Got {
     Value(Bytes),
     Absent,
+    OutOfMemory,
+}
+
+/// What keys in a range have.
+#[derive(Debug, Drop)]
+pub enum Scanned {
+    /// The puts that count, by key.
+    Rows(Rows),
     OutOfMemory,
 }

@@ -1,6 +1,6 @@
 // Facts of the machine, each as the contract of a function.
 ghost use Rattle.keel_machine.specs.Laws.{FailureStops, OneCallAStep};
-ghost use Rattle.keel_machine.specs.WorkedRows.{FirstPut, SecondPut};
+ghost use Rattle.keel_machine.specs.WorkedRows.{FirstPut, FullQueue, SecondPut};
 
 /// A write step makes one changing call of the device at most.
 pub fn one_call_a_step()
@@ -20,4 +20,9 @@ pub fn first_put()
 /// The calls of a second put.
 pub fn second_put()
     ensures { SecondPut }
+{}
+
+/// The calls of a full queue, which is one group.
+pub fn full_queue()
+    ensures { FullQueue }
 {}

@@ -11,7 +11,7 @@ mod answers;
 pub mod laws;
 mod steps;
 
-pub use answers::{Admit, Got, Outcome, Part};
+pub use answers::{Admit, Got, Outcome, Part, Scanned};
 pub use steps::WriteStep;
 
 #[cfg(test)]

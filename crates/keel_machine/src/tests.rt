@@ -6,4 +6,5 @@ fn the_laws_hold() {
     laws::failure_stops();
     laws::first_put();
     laws::second_put();
+    laws::full_queue();
 }

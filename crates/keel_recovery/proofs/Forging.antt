@@ -14,7 +14,7 @@ use Rattle.keel_machine.specs.Admission.{admit_after}
 use Rattle.keel_machine.specs.Crash.{Leaves, CrashAnswers, crash_after}
 use Rattle.keel_machine.specs.Outside.{as_answer}
 use Rattle.keel_machine.specs.States.{State, Seen, Footing, Known, Unknown, Mode, Story, Group, Act, with_device}
-use Rattle.keel_machine.specs.Turns.{Event, Opening, Admitting, Writing, TakingOutcome, Getting, Listing, Crashing, Finishing, Answers, after}
+use Rattle.keel_machine.specs.Turns.{Event, Opening, Admitting, Writing, TakingOutcome, Getting, Scanning, Listing, Crashing, Finishing, Answers, after}
 use Rattle.keel_machine.specs.Writing.{ready, change_of}
 use Rattle.keel_machine.specs.WritingAfter.{WriteAnswers, MadeCall, call_done, call_failed, write_after}
 use Rattle.keel_recovery.specs.Machine.{forged_of, IsCounted, FootingStays}
@@ -119,6 +119,7 @@ answer_keeps first s (Admitting batch answer) device bound a h = admit_keeps fir
 answer_keeps first s (Writing held answer) device bound a h = write_keeps first s held answer device a h
 answer_keeps first s (TakingOutcome ticket outcome) device bound a h = same_told first s _ (ap (λ (d : Seen). d.told) a.1) refl h
 answer_keeps first s (Getting key got) device bound a h = same_told first s _ a.1.same refl h
+answer_keeps first s (Scanning from to scanned) device bound a h = same_told first s _ a.1.same refl h
 answer_keeps first s (Listing answer) device bound a h = same_told first s _ a.quiet.same refl h
 answer_keeps first s (Crashing kept) device bound a h = crash_keeps first s kept device bound a h
 answer_keeps first s Finishing device bound a h = same_told first s _ (ap (λ (d : Seen). d.told) a) refl h

@@ -10,7 +10,8 @@ use Rattle.keel_disk.specs.State.{State as Disk}
 use Rattle.keel_disk.specs.Told.{Told}
 use Rattle.keel_frag.specs.Writing.{records_bytes}
 use Rattle.keel_machine.specs.Admission.{ops_of}
-use Rattle.keel_machine.specs.States.{State, Footing, Known, Open, Story, OwnLog, Group, Ticketed, Act, MakeLog, SyncDirectory, AddRecords, SyncLog, point_of}
+use Rattle.keel_group.specs.Queue.{Ticketed}
+use Rattle.keel_machine.specs.States.{State, Footing, Known, Open, Story, OwnLog, Group, Act, MakeLog, SyncDirectory, AddRecords, SyncLog, point_of}
 use Rattle.keel_machine.specs.Writing.{payloads_from, started, started_or, ready, change_of}
 use Rattle.keel_machine.specs.WritingAfter.{handed_over, story_published, failure_of, first_done, group_done, first_failed, group_failed}
 use Rattle.keel_recovery.specs.Covering.{Stage, Ready, Trail, Covered}

@@ -12,7 +12,9 @@ use Rattle.keel_disk.specs.Sound.{IsOneToOne}
 use Rattle.keel_machine.specs.declared.steps.WriteStep.{WriteStep}
 use Rattle.keel_machine.specs.declared.steps.WriteStep.TheVariants.{Idle, Spent}
 use Rattle.keel_machine.specs.Admission.{standing}
-use Rattle.keel_machine.specs.States.{State, OwnLog, Group, Ticketed, Act, MakeLog, SyncDirectory, AddRecords, SyncLog}
+use Rattle.keel_group.specs.Queue.{Ticketed}
+use Rattle.keel_group.specs.Forming.{next_batches, wants_sync}
+use Rattle.keel_machine.specs.States.{State, OwnLog, Group, Act, MakeLog, SyncDirectory, AddRecords, SyncLog}
 use Rattle.keel_machine.specs.Tests.{when, differing}
 use Rattle.keel_machine.specs.Writing.{group_plan, formed, started, started_or, ready, turned_away, draws, rest_in_group, cancelled, write_rest, change_of, log_number, group_bytes}
 use Rattle.keel_machine.specs.WritingAfter.{first_done, group_done, first_failed, group_failed}
@@ -43,8 +45,8 @@ below_first : (waiting : List Ticketed) (s : State) (group : Group) (later : Lis
     → (started waiting s).jobs.write.running ≡ Some group → group.left ≡ MakeLog ∷ later → s.numbers.next_file < 2 ^ 56
 below_first [] s group later some h runs left = cc
 below_first (first ∷ rest) s group later some h runs left =
-    let is = same_group (formed first s) group runs in
-    below_planned s.log first.batch.sync s.numbers.next_file later (ap (λ (g : Group). g.left) is ∙ left) h
+    let is = same_group (formed (first ∷ rest) s) group runs in
+    below_planned s.log (wants_sync (next_batches (first ∷ rest))) s.numbers.next_file later (ap (λ (g : Group). g.left) is ∙ left) h
 
 below_in : (running : Option Group) (s : State) (group : Group) (later : List Act) → rest_in_group s running ≡ None
     → (started_or running s).jobs.write.running ≡ Some group → running ≡ s.jobs.write.running → group.left ≡ MakeLog ∷ later → s.numbers.next_file < 2 ^ 56

@@ -20,12 +20,14 @@ use Rattle.keel_machine.specs.declared.answers.Admit.{Admit}
 use Rattle.keel_machine.specs.declared.answers.Admit.TheVariants as admit
 use Rattle.keel_machine.specs.declared.steps.WriteStep.{WriteStep}
 use Rattle.keel_machine.specs.declared.steps.WriteStep.TheVariants as step
-use Rattle.keel_machine.specs.Admission.{AdmitAnswers, size_refusal, refusal, seq_with, standing, queued, admit_after, most_waiting, without_outcome}
+use Rattle.keel_group.specs.declared.formed.TheConstants.{MAX_WAITING}
+use Rattle.keel_machine.specs.Admission.{AdmitAnswers, size_refusal, refusal, seq_with, standing, queued, admit_after, without_outcome}
 use Rattle.keel_machine.specs.Opening.{point_found, continues, GoesOnWith, OpenAnswers, story_opened, opened}
 use Rattle.keel_machine.specs.Outside.{as_answer}
-use Rattle.keel_machine.specs.States.{State, Seen, Footing, Known, Unknown, Mode, Unopened, Closed, Open, Story, Group, Act, Ticketed, MakeLog, SyncDirectory, AddRecords, SyncLog, new_story, point_of, with_device}
+use Rattle.keel_group.specs.Queue.{Ticketed}
+use Rattle.keel_machine.specs.States.{State, Seen, Footing, Known, Unknown, Mode, Unopened, Closed, Open, Story, Group, Act, MakeLog, SyncDirectory, AddRecords, SyncLog, new_story, point_of, with_device}
 use Rattle.keel_machine.specs.Tests.{when}
-use Rattle.keel_machine.specs.Turns.{Event, Opening, Admitting, Writing, TakingOutcome, Getting, Listing, Crashing, Finishing, Answers, after}
+use Rattle.keel_machine.specs.Turns.{Event, Opening, Admitting, Writing, TakingOutcome, Getting, Scanning, Listing, Crashing, Finishing, Answers, after}
 use Rattle.keel_machine.specs.Writing.{started, started_or, ready, write_rest, change_of}
 use Rattle.keel_machine.specs.WritingAfter.{WriteAnswers, MadeCall, first_done, group_done, first_failed, group_failed, call_done, call_failed, queue_turned, write_after}
 use Rattle.keel_reading.specs.declared.replay.Found.{Found}
@@ -263,7 +265,7 @@ sizes_none : (s : State) (batch : Batch) → refusal s batch ≡ None → size_r
 sizes_none s batch none =
     let stopped : Option Admit = option_map admit.Stopped (standing s) in
     let others : List (Option Admit) = stopped ∷ when (nat_lt (2 ^ 56) (seq_with s batch)) (admit.Spent Sequence)
-    ∷ when (nat_le (2 ^ 56) s.writing.last_ticket) (admit.Spent Ticket) ∷ when (nat_le most_waiting (length s.writing.waiting)) (admit.QueueFull (length s.writing.waiting)) ∷ [] in
+    ∷ when (nat_le (2 ^ 56) s.writing.last_ticket) (admit.Spent Ticket) ∷ when (nat_le MAX_WAITING (length s.writing.waiting)) (admit.QueueFull (length s.writing.waiting)) ∷ [] in
     none_first (size_refusal batch) others none
 
 within_sequences : (s : State) (batch : Batch) → refusal s batch ≡ None → seq_with s batch ≤ 2 ^ 56
@@ -272,7 +274,7 @@ within_sequences s batch none =
     let stopped : Option Admit = option_map admit.Stopped (standing s) in
     let sequence : Option Admit = when (nat_lt (2 ^ 56) (seq_with s batch)) (admit.Spent Sequence) in
     let others : List (Option Admit) =
-    when (nat_le (2 ^ 56) s.writing.last_ticket) (admit.Spent Ticket) ∷ when (nat_le most_waiting (length s.writing.waiting)) (admit.QueueFull (length s.writing.waiting)) ∷ [] in
+    when (nat_le (2 ^ 56) s.writing.last_ticket) (admit.Spent Ticket) ∷ when (nat_le MAX_WAITING (length s.writing.waiting)) (admit.QueueFull (length s.writing.waiting)) ∷ [] in
     let answer : Admit = admit.Spent Sequence in
     ltb-false (2 ^ 56) (seq_with s batch)
     (none_when (nat_lt (2 ^ 56) (seq_with s batch)) answer
@@ -354,6 +356,7 @@ answer_keeps s (TakingOutcome ticket outcome) device may a h =
     quiet_keeps s (with_device device (without_outcome ticket s)) may refl refl (ap (λ (d : Seen). d.told) a.1)
     (λ state kept. record { one_to_one = kept.one_to_one; numbered = kept.numbered; covered = kept.covered }) h
 answer_keeps s (Getting key got) device may a h = same_keeps s device a.1.same h
+answer_keeps s (Scanning from to scanned) device may a h = same_keeps s device a.1.same h
 answer_keeps s (Listing answer) device may a h = same_keeps s device a.quiet.same h
 answer_keeps s (Crashing kept) device may a h = crash_keeps s kept device a h
 answer_keeps s Finishing device may a h = absurd may

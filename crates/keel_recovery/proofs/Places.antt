@@ -13,7 +13,8 @@ use Rattle.keel_disk.specs.State.{State as Disk}
 use Rattle.keel_disk.specs.Step.{DiskStep}
 use Rattle.keel_frag.specs.Writing.{records_bytes}
 use Rattle.keel_machine.specs.Admission.{ops_of, count_ops}
-use Rattle.keel_machine.specs.States.{Story, OwnLog, Group, Ticketed, Act, SyncDirectory, SyncLog, point_of}
+use Rattle.keel_group.specs.Queue.{Ticketed}
+use Rattle.keel_machine.specs.States.{Story, OwnLog, Group, Act, SyncDirectory, SyncLog, point_of}
 use Rattle.keel_machine.specs.Writing.{payloads_from}
 use Rattle.keel_machine.specs.WritingAfter.{handed_over, story_published}
 use Rattle.keel_recovery.specs.Batches.{AreBatches}

@@ -10,7 +10,8 @@ use Rattle.keel_batch.specs.Spelling.{IsOp}
 use Rattle.keel_machine.specs.declared.answers.Admit.{Admit}
 use Rattle.keel_machine.specs.declared.answers.Admit.TheVariants.{BadSize}
 use Rattle.keel_machine.specs.declared.answers.Part.TheVariants as part
-use Rattle.keel_machine.specs.Admission.{is_key_length, op_refusal, ops_refusal, weight_of, size_refusal}
+use Rattle.keel_base.specs.Weight.{weight_of}
+use Rattle.keel_machine.specs.Admission.{is_key_length, op_refusal, ops_refusal, size_refusal}
 use Rattle.keel_machine.specs.Tests.{when}
 use Rattle.keel_recovery.proofs.FirstTests.{none_first, none_later, none_when}
 

@@ -1,6 +1,6 @@
 -- What a write step and a queued batch do to the order of batches, where no call is made.
 use Rattle.std.specs.Prelude.{◌==◌, nat_le, not, ◌&&◌}
-use Rattle.std.proofs.Common.{◌≡◌, inl, ℕ, ◌+◌, ◌^◌, ◌≤◌, List, [], ◌∷◌, ◌++◌, length, Option, Some, None, option_map, refl, sym, ap, subst, ◌∙◌, arith, is_some}
+use Rattle.std.proofs.Common.{◌≡◌, inl, ℕ, zero, suc, ◌+◌, ◌^◌, ◌≤◌, Bool, List, [], ◌∷◌, ◌++◌, length, take, drop, Option, Some, None, option_map, refl, sym, ap, subst, ◌∙◌, arith, is_some}
 use Rattle.std.proofs.lemmas.List.{append_assoc, append-nil, map-append}
 use Rattle.keel_base.specs.declared.failure.Failure.{Failure}
 use Rattle.keel_base.specs.declared.op.Batch.{Batch}
@@ -11,7 +11,9 @@ use Rattle.keel_base.specs.declared.failure.Counter.TheVariants.{FileNumber, Job
 use Rattle.keel_machine.specs.declared.steps.WriteStep.{WriteStep}
 use Rattle.keel_machine.specs.declared.steps.WriteStep.TheVariants.{Idle, Spent}
 use Rattle.keel_machine.specs.Admission.{standing_of, standing, ops_of, count_ops, batches_of_group}
-use Rattle.keel_machine.specs.States.{State, Story, OwnLog, Group, Ticketed, point_of}
+use Rattle.keel_group.specs.Queue.{Ticketed, tickets_of, batches_of}
+use Rattle.keel_group.specs.Forming.{next_size, next_batches, wants_sync}
+use Rattle.keel_machine.specs.States.{State, Story, OwnLog, Group, point_of}
 use Rattle.keel_machine.specs.Tests.{when, differing}
 use Rattle.keel_machine.specs.Writing.{group_plan, started, started_or, ready, turned_away, rest_in_group, cancelled, write_rest}
 use Rattle.keel_recovery.specs.Batches.{AreBatches}
@@ -23,26 +25,35 @@ use Rattle.keel_recovery.proofs.Sizes.{IsWithinLimits}
 
 -- ---- a group is formed
 
-formed_keeps : (state : Disk) (story : Story) (log : Option OwnLog) (first : Ticketed) (rest : List Ticketed) (failures : List Failure) (tickets : List ℕ) (next_file : ℕ)
-    → standing_of failures ≡ None → IsCoveredIn state story log (first ∷ rest) failures None next_file
+-- so many of those that wait, and the rest, are all of them
+ops_split : (n : ℕ) (waiting : List Ticketed) → ops_waiting waiting ≡ ops_of (take n (batches_of waiting)) ++ ops_waiting (drop n waiting)
+ops_split zero waiting = refl
+ops_split (suc n) [] = refl
+ops_split (suc n) (first ∷ rest) = ap (λ (l : List (List Op)). first.batch.ops ∷ l) (ops_split n rest)
+
+formed_keeps : (state : Disk) (story : Story) (log : Option OwnLog) (waiting rest : List Ticketed) (batches : List Batch) (sync : Bool) (failures : List Failure) (tickets : List ℕ) (next_file : ℕ)
+    → standing_of failures ≡ None → ops_waiting waiting ≡ ops_of batches ++ ops_waiting rest → IsCoveredIn state story log waiting failures None next_file
     → IsCoveredIn state story log rest failures
-    (Some (record { tickets = tickets; batches = first.batch ∷ []; log = None; left = group_plan (is_some log) first.batch.sync })) next_file
-formed_keeps state story None first rest [] tickets next_file none h = record {
+    (Some (record { tickets = tickets; batches = batches; log = None; left = group_plan (is_some log) sync })) next_file
+formed_keeps state story None waiting rest batches sync [] tickets next_file none split h = record {
   trail = h.trail;
   covered = h.covered;
-  order = (record { none_in_limbo = h.order.0; sync = first.batch.sync; left_is = refl }, h.order.1);
+  order = (record { none_in_limbo = h.order.0; sync = sync; left_is = refl }, subst (λ (l : List (List Op)). AreBatches (point_of story).seq (story.limbo ++ l)) split h.order.1);
 }
-formed_keeps state story (Some own) first rest [] tickets next_file none h = record {
+formed_keeps state story (Some own) waiting rest batches sync [] tickets next_file none split h = record {
   trail = h.trail;
   covered = h.covered;
-  order = (inl (record { none_in_limbo = h.order.0; sync = first.batch.sync; left_is = refl }), h.order.1);
+  order = (inl (record { none_in_limbo = h.order.0; sync = sync; left_is = refl }), subst (λ (l : List (List Op)). AreBatches (point_of story).seq (story.limbo ++ l)) split h.order.1);
 }
-formed_keeps state story log first rest (failure ∷ failures) tickets next_file none h = none_some failure none
+formed_keeps state story log waiting rest batches sync (failure ∷ failures) tickets next_file none split h = none_some failure none
 
 started_keeps : (state : Disk) (waiting : List Ticketed) (s : State) → standing s ≡ None → IsCoveredIn state s.story s.log waiting s.failing.failures None s.numbers.next_file
     → IsOpenCovered state s → IsOpenCovered state (started waiting s)
 started_keeps state [] s none h same = same
-started_keeps state (first ∷ rest) s none h same = formed_keeps state s.story s.log first rest s.failing.failures (first.ticket ∷ []) s.numbers.next_file none h
+started_keeps state (first ∷ rest) s none h same =
+    let queue : List Ticketed = first ∷ rest in
+    formed_keeps state s.story s.log queue (drop (next_size queue) queue) (next_batches queue) (wants_sync (next_batches queue)) s.failing.failures
+    (take (next_size queue) (tickets_of queue)) s.numbers.next_file none (ops_split (next_size queue) queue) h
 
 none_stands : (s : State) → rest_in_group s None ≡ None → standing s ≡ None
 none_stands s h =

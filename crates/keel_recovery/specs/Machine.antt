@@ -16,7 +16,8 @@ use Rattle.keel_reading.specs.Reading.{Reads}
 use Rattle.keel_machine.specs.Admission.{ops_of, batches_of_group}
 use Rattle.keel_machine.specs.Crash.{CrashAnswers}
 use Rattle.keel_machine.specs.Opening.{OpenAnswers, continues}
-use Rattle.keel_machine.specs.States.{State, Seen, Footing, Known, Unknown, Mode, Unopened, Closed, Open, Story, OwnLog, Group, Ticketed, Act, MakeLog, SyncDirectory, AddRecords, SyncLog, point_of}
+use Rattle.keel_group.specs.Queue.{Ticketed}
+use Rattle.keel_machine.specs.States.{State, Seen, Footing, Known, Unknown, Mode, Unopened, Closed, Open, Story, OwnLog, Group, Act, MakeLog, SyncDirectory, AddRecords, SyncLog, point_of}
 use Rattle.keel_machine.specs.Turns.{Event, Opening, Listing, Crashing, Finishing, Turn}
 use Rattle.keel_machine.specs.Writing.{ready, change_of}
 use Rattle.keel_machine.specs.WritingAfter.{MadeCall, call_done, call_failed, failure_of}

@@ -1,9 +1,13 @@
 use Rattle.std.proofs.Common.{None}
+use Rattle.keel_machine.specs.declared.answers.Outcome.TheVariants as outcome
+use Rattle.keel_machine.specs.WritingAfter.{failure_of}
 use Rattle.keel_core.specs.declared.log.OwnLog.{OwnLog}
 use Rattle.keel_core.specs.declared.log.OwnLog.TheVariants.{Absent, Created, Ready}
+use Rattle.keel_core.specs.Flights.{flying}
 use Rattle.keel_core.specs.Logs.{given_up}
 use Rattle.keel_core.specs.Orders.{IsStaged}
-use Rattle.keel_core.proofs.Ordering.{over_in_order}
+use Rattle.keel_core.specs.Queues.{tickets_in}
+use Rattle.keel_core.proofs.Ordering.{over_in_order, given_settled}
 use Rattle.keel_core.proofs.store.Core.fail.Goals as goal
 
 staged : (log : OwnLog) → IsStaged None (given_up log)
@@ -18,10 +22,10 @@ invariant_of-self g c =
     (record {
       waiting = c.settle.ensures.waiting;
       group = c.settle.ensures.group;
-      outcomes = c.settle.ensures.outcomes;
+      added = c.settle.ensures.outcomes;
       len = c.settle.ensures.len;
       room = c.settle.ensures.room;
       ticket = c.settle.ensures.last_ticket;
       job = c.settle.ensures.job;
     })
-    tt (rw c.given_up-self-inside.ensures (staged c.self.inside.log))
+    (given_settled (outcome.Failed (failure_of c.args.fault)) (tickets_in (flying c.self.inside.queue.group)) tt) (rw c.given_up-self-inside.ensures (staged c.self.inside.log))

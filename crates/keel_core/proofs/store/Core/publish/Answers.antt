@@ -1,51 +1,55 @@
-use Rattle.std.proofs.Common.{sym, ap, ◌∙◌}
+use Rattle.std.proofs.Common.{length, sym, ap, ◌∙◌}
 use Rattle.keel_machine.specs.declared.steps.WriteStep.TheVariants as step
 use Rattle.keel_machine.specs.Outside.{seen}
 use Rattle.keel_core.specs.Orders.{point_at}
 use Rattle.keel_core.specs.Trails.{TrailShown, shown}
 use Rattle.keel_core.specs.Views.{CoreView}
-use Rattle.keel_core.proofs.Ordering.{published_in_order, published_view, seq_published}
+use Rattle.keel_machine.specs.Admission.{ops_of}
+use Rattle.keel_core.specs.Flights.{flying}
+use Rattle.keel_core.specs.Queues.{tickets_in}
+use Rattle.keel_core.proofs.Ordering.{done_settled, published_in_order, published_view, seq_published}
 use Rattle.keel_core.proofs.store.Core.publish.Goals as goal
 
 pub invariant_of-self : goal.invariant_of-self
 invariant_of-self g c =
     let w = c.self.inside in
-    published_in_order w.trail c.publish.new.self w.queue c.settle.new.self w.log w.last_seq w.handed_seq w.next_file c.args.sync _ c.self.invariant
+    published_in_order w.trail c.publish.new.self w.queue c.settle_done.new.self w.log w.last_seq w.handed_seq w.next_file c.args.sync _ c.self.invariant
     (record {
-      waiting = c.settle.ensures.waiting;
-      group = c.settle.ensures.group;
-      outcomes = c.settle.ensures.outcomes;
-      len = c.settle.ensures.len;
-      room = c.settle.ensures.room;
-      ticket = c.settle.ensures.last_ticket;
-      job = c.settle.ensures.job;
+      waiting = c.settle_done.ensures.waiting;
+      group = c.settle_done.ensures.group;
+      added = c.settle_done.ensures.outcomes;
+      len = c.settle_done.ensures.len;
+      room = c.settle_done.ensures.room;
+      ticket = c.settle_done.ensures.last_ticket;
+      job = c.settle_done.ensures.job;
     })
-    tt (rw (← c.self.view_is) at c.requires) c.publish.ensures.shown c.publish.ensures.count c.publish.ensures.room
+    (done_settled w.last_seq (tickets_in (flying w.queue.group)) (ops_of c.limbo.result.now)) (rw (← c.self.view_is) at c.requires) c.publish.ensures.shown c.publish.ensures.count c.publish.ensures.room
 
 pub returns-clause-view : goal.returns-clause-view
 returns-clause-view g c =
     let w = c.self.inside in
-    let q = c.settle.ensures in
-    let seq = seq_published (shown w.trail) c.args.sync w.last_seq w.handed_seq c.self.invariant.seq c.self.invariant.handed in
+    let q = c.settle_done.ensures in
     let D = g.D.Disk in
     let old : CoreView = record {
       device = seen (D.told w.disk) (D.changes w.disk) (D.faults w.disk) (D.last_fault w.disk) (D.is_simulated w.disk);
       trail = shown w.trail;
       stage = w.log;
       waiting = w.queue.waiting;
-      group = w.queue.group;
+      group = flying w.queue.group;
       outcomes = w.queue.outcomes.items;
       last_ticket = w.queue.last_ticket;
       job = w.queue.job;
       standing = w.standing;
       next_file = w.next_file;
     } in
-    rw (← c.self.view_is) (published_view c.args.sync old _ _ _ _ _ _ w.handed_seq c.publish.ensures.shown q.waiting q.group q.outcomes q.last_ticket q.job seq)
+    let group = ap flying q.group in
+    rw (← c.self.view_is) (published_view c.args.sync old _ _ _ _ _ _ w.last_seq c.limbo.result.now c.publish.ensures.shown q.waiting group q.outcomes q.last_ticket q.job c.self.invariant.seq c.limbo.ensures)
 
 pub returns-clause-step : goal.returns-clause-step
 returns-clause-step g c =
     let w = c.self.inside in
     let seq = seq_published (shown w.trail) c.args.sync w.last_seq w.handed_seq c.self.invariant.seq c.self.invariant.handed in
     let reached = seq ∙ ap (λ (t : TrailShown). (point_at t).seq) (sym c.publish.ensures.shown) in
-    let job = c.settle.ensures.job ∙ ap (λ (v : CoreView). v.job) c.self.view_is in
-    λ i. step.Done (job i) (reached i) 1
+    let job = c.settle_done.ensures.job ∙ ap (λ (v : CoreView). v.job) c.self.view_is in
+    let count = c.in_flight-batches.ensures ∙ ap (λ (v : CoreView). length (tickets_in v.group)) c.self.view_is in
+    λ i. step.Done (job i) (reached i) (count i)

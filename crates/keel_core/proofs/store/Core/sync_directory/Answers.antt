@@ -1,4 +1,5 @@
 use Rattle.keel_disk.specs.declared.change.Change.TheVariants.{SyncDir}
+use Rattle.keel_core.specs.Flights.{flying}
 use Rattle.keel_core.proofs.Standing.{name_synced_at, name_failed_at, want_at}
 use Rattle.keel_core.proofs.store.Core.sync_directory.Goals as goal
 
@@ -7,7 +8,7 @@ returns-in-Ok-clause-turn g c =
     let w = c.self.inside in
     let stage = rw (← c.self.view_is) at c.requires.stage in
     rw (← c.self.view_is)
-    (name_synced_at _ _ _ w.queue.outcomes.items w.queue.last_ticket w.standing w.log w.queue.waiting w.queue.group c.args.number w.queue.job w.next_file
+    (name_synced_at _ _ _ w.queue.outcomes.items w.queue.last_ticket w.standing w.log w.queue.waiting (flying w.queue.group) c.args.number w.queue.job w.next_file
     stage c.self.invariant.staged
     (record { leaves = c.in-Ok.ensures.step; count = c.in-Ok.ensures.count; cause = c.in-Ok.ensures.cause; simulated = c.in-Ok.ensures.simulated }))
 
@@ -17,7 +18,7 @@ returns-in-Err-Fault-clause-turn g c =
     let stage = rw (← c.self.view_is) at c.requires.stage in
     let answered = rw c.in-Err-Fault.field-0-is at c.in-Err-Fault.ensures in
     rw (← c.self.view_is, c.fail.ensures.view, c.fail.ensures.step)
-    (name_failed_at _ _ _ w.queue.outcomes.items w.queue.last_ticket w.standing w.log w.queue.waiting w.queue.group c.args.number w.queue.job w.next_file c.in-Err-Fault.fault
+    (name_failed_at _ _ _ w.queue.outcomes.items w.queue.last_ticket w.standing w.log w.queue.waiting (flying w.queue.group) c.args.number w.queue.job w.next_file c.in-Err-Fault.fault
     stage c.self.invariant.staged
     (record { leaves = answered.step; count = answered.count; cause = answered.cause; simulated = answered.simulated }))
 
@@ -26,5 +27,5 @@ returns-in-Err-OutOfMemory-clause-turn g c =
     let w = c.self.inside in
     let answered = rw c.in-Err-OutOfMemory.field-0-is at c.in-Err-OutOfMemory.ensures in
     rw (← c.self.view_is)
-    (want_at _ _ _ w.queue.outcomes.items w.queue.last_ticket w.standing SyncDir w.log w.queue.waiting w.queue.group w.queue.job w.next_file
+    (want_at _ _ _ w.queue.outcomes.items w.queue.last_ticket w.standing SyncDir w.log w.queue.waiting (flying w.queue.group) w.queue.job w.next_file
     (record { leaves = answered.step; count = answered.count; cause = answered.cause; simulated = answered.simulated }))

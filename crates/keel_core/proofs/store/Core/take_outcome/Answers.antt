@@ -1,4 +1,5 @@
 use Rattle.std.proofs.Common.{sym, ◌∙◌}
+use Rattle.keel_core.specs.Flights.{flying}
 use Rattle.keel_core.proofs.Admitting.{taken_goes, waits_left}
 use Rattle.keel_core.proofs.Ordering.{taken_in_order}
 use Rattle.keel_core.proofs.store.Core.take_outcome.Goals as goal
@@ -19,4 +20,4 @@ pub returns-clause-waits : goal.returns-clause-waits
 returns-clause-waits g c =
     let q = c.take_outcome.ensures in
     let w = c.self.inside in
-    rw (← c.self.view_is) (λ waits. waits_left w.log w.queue.group w.queue.waiting w.queue.outcomes.items c.args.ticket c.self.invariant.settled (sym q.outcome ∙ waits))
+    rw (← c.self.view_is) (λ waits. waits_left w.log (flying w.queue.group) w.queue.waiting w.queue.outcomes.items c.args.ticket c.self.invariant.settled (sym q.outcome ∙ waits))

@@ -1,0 +1,3 @@
+pub mod Zipping
+pub mod Sizing
+pub mod Dividing

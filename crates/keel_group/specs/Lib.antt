@@ -1,0 +1,5 @@
+pub mod Queue
+pub mod Sizes
+pub mod Forming
+pub mod Keeping
+pub mod Laws

@@ -1,0 +1,9 @@
+pub mod KeyOrder
+pub mod Newer
+pub mod Placing
+pub mod Unique
+pub mod Stepping
+pub mod Least
+pub mod Passing
+pub mod Having
+pub mod Turning

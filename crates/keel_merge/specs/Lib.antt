@@ -1,0 +1,4 @@
+pub mod Order
+pub mod Merging
+pub mod Taking
+pub mod Laws

@@ -1,0 +1,5 @@
+pub mod Adding
+pub mod Halves
+pub mod Orders
+pub mod Seeking
+pub mod Vacancies

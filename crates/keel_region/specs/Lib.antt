@@ -1,0 +1,5 @@
+pub mod Order
+pub mod Places
+pub mod Shown
+pub mod Slots
+pub mod Spans
