@@ -65,17 +65,7 @@ impl Mem {
         ensures entries { OnOk result (self.new.entries ≡ self.old.entries + length batch.now.ops) }
         ensures err { OnErr result (self.new ≡ self.old) }
     {
-        let ops = batch.ops.as_slice();
-        let bytes = self
-            .free_bytes
-            .checked_add(ops_size(ops))
-            .ok_or(OutOfMemory)?;
-        let entries = self.free_entries.checked_add(ops.len()).ok_or(OutOfMemory)?;
-        self.region.reserve(bytes)?;
-        self.index.reserve(entries)?;
-        self.free_bytes = bytes;
-        self.free_entries = entries;
-        Ok(())
+        self.reserve_ops(batch.ops.as_slice())
     }
 
     /// Puts the rows of a batch for which room was reserved, numbered from `seq` on.
@@ -89,8 +79,43 @@ impl Mem {
         ensures bytes { self.new.bytes + bytes_of batch.now.ops ≡ self.old.bytes }
         ensures entries { self.new.entries + length batch.now.ops ≡ self.old.entries }
     {
+        self.put_ops(seq, batch.ops.as_slice());
+    }
+
+    /// Takes the memory that some ops need, as `reserve` does for a batch.
+    pub fn reserve_ops(&mut self, ops: &[Op]) -> Result<(), OutOfMemory>
+        requires limits { AllByRecursion IsWithinLimits ops.now }
+        requires few { length ops.now ≤ 1000 }
+        ensures rows { self.new.rows ≡ self.old.rows }
+        ensures bytes { OnOk result (self.new.bytes ≡ self.old.bytes + bytes_of ops.now) }
+        ensures entries { OnOk result (self.new.entries ≡ self.old.entries + length ops.now) }
+        ensures err { OnErr result (self.new ≡ self.old) }
+    {
+        let bytes = self
+            .free_bytes
+            .checked_add(ops_size(ops))
+            .ok_or(OutOfMemory)?;
+        let entries = self.free_entries.checked_add(ops.len()).ok_or(OutOfMemory)?;
+        self.region.reserve(bytes)?;
+        self.index.reserve(entries)?;
+        self.free_bytes = bytes;
+        self.free_entries = entries;
+        Ok(())
+    }
+
+    /// Puts the rows of some ops for which room was reserved, as `put_reserved` does for a batch.
+    pub fn put_ops(&mut self, seq: u64, ops: &[Op])
+        requires limits { AllByRecursion IsWithinLimits ops.now }
+        requires bytes { bytes_of ops.now ≤ self.old.bytes }
+        requires entries { length ops.now ≤ self.old.entries }
+        requires above { All (λ row. row.seq < seq) self.old.rows }
+        requires last { seq + length ops.now ≤ 2 ^ 56 + 1 }
+        ensures rows { self.new.rows ≡ self.old.rows ++ op_rows seq ops.now }
+        ensures bytes { self.new.bytes + bytes_of ops.now ≡ self.old.bytes }
+        ensures entries { self.new.entries + length ops.now ≡ self.old.entries }
+    {
         let mut next = seq;
-        for op in batch.ops.as_slice() {
+        for op in ops {
             self.put_op(next, op);
             next += 1;
         }
