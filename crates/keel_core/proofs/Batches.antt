@@ -19,6 +19,14 @@ ops_are : (ops : List Op) → AllByRecursion IsWithinLimits ops → AllByRecursi
 ops_are [] h = tt
 ops_are (op ∷ ops) h = (op_is op h.0, ops_are ops h.1)
 
+within_is : (op : Op) → IsOp op → IsWithinLimits op
+within_is (Put key value) h = (record { some = omega (arith, h.0.0); most = h.0.1 }, h.1.1)
+within_is (Del key) h = record { some = omega (arith, h.0); most = h.1 }
+
+pub within_are : (ops : List Op) → AllByRecursion IsOp ops → AllByRecursion IsWithinLimits ops
+within_are [] h = tt
+within_are (op ∷ ops) h = (within_is op h.0, within_are ops h.1)
+
 -- numbered so, an admissible batch is one as a log may hold it
 pub is_batch : (seq : ℕ) (ops : List Op) → AreAdmissible ops → 1 ≤ seq → seq + length ops ≤ 2 ^ 56 + 1 → IsBatch seq ops
 is_batch seq ops ok least most = record { first = least; some = ok.some; few = ok.few; last = most; each = ops_are ops ok.each }

@@ -15,7 +15,10 @@ use Rattle.keel_core.specs.Orders.{IsInOrder, IsReady, IsStaged, WhereGone}
 use Rattle.keel_core.specs.Queues.{batches_in, batches_next, group_entered, job_entered, tickets_in, waiting_entered, without_batches, is_synced}
 use Rattle.keel_core.specs.Views.{left_of, group_of, calls_in}
 use Rattle.keel_core.proofs.Forming.{formed_staged, next_some, some_next}
+use Rattle.keel_mem.specs.Shown.{MemShown}
+use Rattle.keel_core.specs.Placing.{bytes_needed}
 use Rattle.keel_core.proofs.Lists.{count_ops-append}
+use Rattle.keel_core.proofs.Rooms.{bytes_needed-append}
 use Rattle.keel_core.proofs.Stories.{ops_of-append}
 
 -- ---- what is in flight and what waits are together as before
@@ -24,24 +27,30 @@ pub record AreSame (waiting : List Ticketed) (group : Option Flying) : Type 0 wh
   pub ops :
       count_ops (ops_of (batches_in (group_entered waiting group))) + count_ops (ops_of (batches_of (waiting_entered waiting group)))
       ≡ count_ops (ops_of (batches_in group)) + count_ops (ops_of (batches_of waiting))
+  pub bytes :
+      bytes_needed (batches_in (group_entered waiting group)) + bytes_needed (batches_of (waiting_entered waiting group))
+      ≡ bytes_needed (batches_in group) + bytes_needed (batches_of waiting)
   pub batches : length (batches_in (group_entered waiting group)) + length (waiting_entered waiting group) ≡ length (batches_in group) + length waiting
   pub tickets : length (tickets_in (group_entered waiting group)) + length (waiting_entered waiting group) ≡ length (tickets_in group) + length waiting
 
 pub are_same : (waiting : List Ticketed) (group : Option Flying) → AreSame waiting group
-are_same waiting (Some group) = record { ops = refl; batches = refl; tickets = refl }
-are_same [] None = record { ops = refl; batches = refl; tickets = refl }
+are_same waiting (Some group) = record { ops = refl; bytes = refl; batches = refl; tickets = refl }
+are_same [] None = record { ops = refl; bytes = refl; batches = refl; tickets = refl }
 are_same (first ∷ rest) None =
     let queue : List Ticketed = first ∷ rest in
     let all = all_of queue in
     let left = drop (next_size queue) queue in
     let ops = ap (λ (l : List Batch). count_ops (ops_of l)) all.batches in
     let split = ap count_ops (ops_of-append (next_batches queue) (batches_of left)) ∙ count_ops-append (ops_of (next_batches queue)) (ops_of (batches_of left)) in
+    let bytes = ap bytes_needed all.batches in
+    let parts = bytes_needed-append (next_batches queue) (batches_of left) in
     let tickets = ap length all.tickets in
     let shared = length-append (take (next_size queue) (tickets_of queue)) (tickets_of left) in
     let some = length-map left (λ (t : Ticketed). t.ticket) in
     let many = length-map queue (λ (t : Ticketed). t.ticket) in
     record {
       ops = omega (arith, ops, split);
+      bytes = omega (arith, bytes, parts);
       batches = omega (arith, all.group, all.rest);
       tickets = omega (arith, tickets, shared, some, many);
     }
@@ -63,11 +72,11 @@ job_most waiting (Some group) job most below = most
 job_most [] None job most below = most
 job_most (first ∷ rest) None job most below = let now = below refl in omega (arith, now)
 
-pub entered_in_order : (trail : Trail) (old new : Queue) (log behind : OwnLog) (last_seq handed_seq next_file later : ℕ)
-    → IsInOrder trail old log last_seq handed_seq next_file → IsEntered old new → (flying old.group ≡ None → old.job < 2 ^ 56)
+pub entered_in_order : (mem : MemShown) (trail : Trail) (old new : Queue) (log behind : OwnLog) (last_seq handed_seq next_file later : ℕ)
+    → IsInOrder mem trail old log last_seq handed_seq next_file → IsEntered old new → (flying old.group ≡ None → old.job < 2 ^ 56)
     → IsStaged (group_entered old.waiting (flying old.group)) behind → 1 ≤ later → later ≤ 2 ^ 56 + 1
-    → IsInOrder trail new behind last_seq handed_seq later
-entered_in_order trail old new log behind last_seq handed_seq next_file later order q below staged least most =
+    → IsInOrder mem trail new behind last_seq handed_seq later
+entered_in_order mem trail old new log behind last_seq handed_seq next_file later order q below staged least most =
     let same = are_same old.waiting (flying old.group) in
     let waiting = q.waiting in
     let group = q.group in
@@ -79,6 +88,12 @@ entered_in_order trail old new log behind last_seq handed_seq next_file later or
       few = q.few order.few;
       staged = rw group staged;
       settled = rw q.outcomes order.settled;
+      held = rw (group, waiting) (record {
+        limbo = order.held.limbo;
+        placed = order.held.placed;
+        bytes = omega (arith, order.held.bytes, same.bytes);
+        entries = omega (arith, order.held.entries, same.ops);
+      });
       trail_room = rw (group, waiting) (omega (arith, order.trail_room, same.batches));
       outcome_room = rw (group, waiting, q.outcomes) (omega (arith, order.outcome_room, same.tickets));
       job = rw q.job (job_most old.waiting (flying old.group) old.job order.job below);

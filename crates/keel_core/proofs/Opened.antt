@@ -18,9 +18,11 @@ use Rattle.keel_core.specs.declared.log.OwnLog.TheVariants.{Absent}
 use Rattle.keel_core.specs.declared.queue.Queue.{Queue}
 use Rattle.keel_core.specs.declared.trail.Trail.{Trail}
 use Rattle.keel_core.specs.Openings.{Expects, Opens, WhereGoesOn, fresh}
-use Rattle.keel_core.specs.Orders.{IsInOrder, point_at}
+use Rattle.keel_core.specs.Orders.{IsInOrder}
+use Rattle.keel_mem.specs.Shown.{MemShown}
+use Rattle.keel_core.specs.Placing.{IsPlaced}
 use Rattle.keel_core.specs.Queues.{IsNewQueue}
-use Rattle.keel_core.specs.Trails.{TrailShown, IsEmptyTrail, no_trail}
+use Rattle.keel_core.specs.Trails.{TrailShown, IsEmptyTrail, no_trail, point_at, point_read}
 use Rattle.keel_core.specs.Views.{Fits}
 
 -- a directory has one reading: what is found is what the story says
@@ -65,9 +67,9 @@ refuses s before device refusal is answers other quiet =
     subst (λ (d : Seen). Answers (record s { device = d }) (Opening (Err refusal)) device) (sym is) (record { cause = answers; other = other; finds = tt; quiet = quiet })
 
 -- what is true of every core is true of one that was just opened
-pub new_in_order : (trail : Trail) (queue : Queue) (found : Found) → IsEmptyTrail found.batches trail → IsNewQueue queue → RunsOn found
-    → IsInOrder trail queue Absent found.last_seq found.last_seq found.next_file
-new_in_order trail queue found empty q runs = record {
+pub new_in_order : (mem : MemShown) (trail : Trail) (queue : Queue) (found : Found) → IsEmptyTrail found.batches trail → IsNewQueue queue → RunsOn found → IsPlaced mem (point_read found.batches)
+    → IsInOrder mem trail queue Absent found.last_seq found.last_seq found.next_file
+new_in_order mem trail queue found empty q runs placed = record {
   seq = sym (last_found found runs) ∙ ap (λ (t : TrailShown). (point_at t).seq) (sym empty.shows);
   handed = subst (λ (t : TrailShown). found.last_seq ≡ found.last_seq + count_ops (ops_of t.limbo)) (sym empty.shows) (sym (add-zero found.last_seq));
   enough = rw (q.group, q.waiting) (omega (arith, runs.last_most));
@@ -75,6 +77,7 @@ new_in_order trail queue found empty q runs = record {
   few = rw q.group (omega arith);
   staged = rw q.group tt;
   settled = rw q.outcomes tt;
+  held = rw (empty.shows, q.group, q.waiting) (record { limbo = All-nil _; placed = placed; bytes = omega arith; entries = omega arith });
   trail_room = rw (q.group, q.waiting) (omega (arith, empty.none));
   outcome_room = rw (q.group, q.waiting) (omega (arith, ap length q.outcomes));
   job = omega (arith, q.job);

@@ -5,6 +5,7 @@ use Rattle.std.proofs.lemmas.List.Elements.{All-nil}
 use Rattle.std.specs.List.{AllByRecursion}
 use Rattle.keel_base.specs.declared.op.Batch.{Batch}
 use Rattle.keel_base.specs.declared.op.Op.{Op}
+use Rattle.keel_group.specs.Forming.{EachIsAdmissible}
 use Rattle.keel_group.specs.Queue.{Ticketed, ticketed, batches_of}
 use Rattle.keel_machine.specs.declared.answers.Outcome.{Outcome}
 use Rattle.keel_machine.specs.Admission.{ops_of, count_ops}
@@ -14,12 +15,15 @@ use Rattle.keel_core.specs.declared.log.OwnLog.TheVariants.{Absent, Created, Rea
 use Rattle.keel_core.specs.declared.queue.Queue.{Queue}
 use Rattle.keel_core.specs.declared.trail.Trail.{Trail}
 use Rattle.keel_core.specs.Flights.{Flying, flying}
-use Rattle.keel_core.specs.Orders.{IsInOrder, IsReady, IsSettled, IsStaged, point_at}
+use Rattle.keel_core.specs.Orders.{IsInOrder, IsReady, IsSettled, IsStaged}
 use Rattle.keel_core.specs.Queues.{batches_in, given, tickets_in, without_batches}
 use Rattle.keel_core.specs.Steps.{all_published}
-use Rattle.keel_core.specs.Trails.{TrailShown, shown, handed, published}
+use Rattle.keel_core.specs.Trails.{TrailShown, shown, handed, published, point_at}
 use Rattle.keel_core.specs.Views.{CoreView, point_in}
+use Rattle.keel_mem.specs.Shown.{MemShown}
+use Rattle.keel_core.specs.Placing.{batch_rows, bytes_needed}
 use Rattle.keel_core.proofs.Lists.{count_ops-append}
+use Rattle.keel_core.proofs.Rooms.{HasRoomMore, handed_held, joined_held, joined_ops, over_held, published_held, turned_held}
 use Rattle.keel_core.proofs.Stories.{ops_of-append, point_published, seq-fold_batches}
 
 -- ---- outcomes
@@ -57,10 +61,10 @@ pub record IsOver (old new : Queue) (outcomes : List (ℕ × Outcome)) : Type 0 
   pub ticket : new.last_ticket ≡ old.last_ticket
   pub job : new.job ≡ old.job
 
-pub over_in_order : (trail : Trail) (old new : Queue) (log behind : OwnLog) (last_seq handed_seq next_file : ℕ) (outcomes : List (ℕ × Outcome))
-    → IsInOrder trail old log last_seq handed_seq next_file → IsOver old new outcomes → AllSettled outcomes → IsStaged None behind
-    → IsInOrder trail new behind last_seq handed_seq next_file
-over_in_order trail old new log behind last_seq handed_seq next_file outcomes order q settled staged =
+pub over_in_order : (mem : MemShown) (trail : Trail) (old new : Queue) (log behind : OwnLog) (last_seq handed_seq next_file : ℕ) (outcomes : List (ℕ × Outcome))
+    → IsInOrder mem trail old log last_seq handed_seq next_file → IsOver old new outcomes → AllSettled outcomes → IsStaged None behind
+    → IsInOrder mem trail new behind last_seq handed_seq next_file
+over_in_order mem trail old new log behind last_seq handed_seq next_file outcomes order q settled staged =
     let waiting = q.waiting in
     let group = q.group in
     record {
@@ -71,6 +75,7 @@ over_in_order trail old new log behind last_seq handed_seq next_file outcomes or
       few = rw group (omega arith);
       staged = rw group staged;
       settled = rw q.added (all_settled-append old.outcomes.items outcomes order.settled settled);
+      held = rw (group, waiting) (over_held mem (shown trail) (flying old.group) old.waiting order.held);
       trail_room = rw (group, waiting) (omega (arith, order.trail_room));
       outcome_room = rw (group, waiting) (omega (arith, order.outcome_room, q.len, q.room));
       job = omega (arith, order.job, q.job);
@@ -106,11 +111,11 @@ gone_staged (Some group) log ready = ready
 handed_count : (trail : TrailShown) (batches : List Batch) → count_ops (ops_of (handed batches trail).limbo) ≡ count_ops (ops_of trail.limbo) + count_ops (ops_of batches)
 handed_count trail batches = ap count_ops (ops_of-append trail.limbo batches) ∙ count_ops-append (ops_of trail.limbo) (ops_of batches)
 
-pub handed_in_order : (trail behind : Trail) (old new : Queue) (log : OwnLog) (last_seq handed_seq next_file more : ℕ) (batches : List Batch)
-    → IsInOrder trail old log last_seq handed_seq next_file → IsTakenFrom old new → IsReady log → batches ≡ batches_in (flying old.group) → more ≡ count_ops (ops_of batches)
+pub handed_in_order : (mem : MemShown) (trail behind : Trail) (old new : Queue) (log : OwnLog) (last_seq handed_seq next_file more : ℕ) (batches : List Batch)
+    → IsInOrder mem trail old log last_seq handed_seq next_file → IsTakenFrom old new → IsReady log → batches ≡ batches_in (flying old.group) → more ≡ count_ops (ops_of batches)
     → shown behind ≡ handed batches (shown trail) → vec_len behind.batches ≡ vec_len trail.batches + length batches → vec_capacity trail.batches ≤ vec_capacity behind.batches
-    → IsInOrder behind new log last_seq (handed_seq + more) next_file
-handed_in_order trail behind old new log last_seq handed_seq next_file more batches order q ready taken more_is shows len room =
+    → IsInOrder mem behind new log last_seq (handed_seq + more) next_file
+handed_in_order mem trail behind old new log last_seq handed_seq next_file more batches order q ready taken more_is shows len room =
     let waiting = q.waiting in
     let group = q.group in
     let none = none_left (flying old.group) in
@@ -126,6 +131,7 @@ handed_in_order trail behind old new log last_seq handed_seq next_file more batc
       few = rw (group, tickets) order.few;
       staged = rw group (gone_staged (flying old.group) log ready);
       settled = rw q.outcomes order.settled;
+      held = rw (shows, group, waiting) (handed_held mem (shown trail) (flying old.group) old.waiting batches taken none (subst EachIsAdmissible (sym taken) order.group) order.held);
       trail_room = rw (group, none, waiting) (omega (arith, order.trail_room, len, size, room));
       outcome_room = rw (group, tickets, waiting, q.outcomes) order.outcome_room;
       job = omega (arith, order.job, q.job);
@@ -146,13 +152,20 @@ over_staged Absent ready = absurd ready
 over_staged (Created number) ready = absurd ready
 over_staged (Ready number size) ready = tt
 
+-- the rows of what was in limbo are in the memtable
+pub record ArePlaced (mem behind : MemShown) (trail : TrailShown) : Type 0 where
+  pub rows : behind.rows ≡ mem.rows ++ batch_rows ((point_at trail).seq + 1) (ops_of trail.limbo)
+  pub bytes : behind.bytes + bytes_needed trail.limbo ≡ mem.bytes
+  pub entries : behind.entries + count_ops (ops_of trail.limbo) ≡ mem.entries
+
 -- what was in limbo was published, and the group is over
-pub published_in_order : (trail behind : Trail) (old new : Queue) (log : OwnLog) (last_seq handed_seq next_file : ℕ) (sync : Bool) (outcomes : List (ℕ × Outcome))
-    → IsInOrder trail old log last_seq handed_seq next_file → IsOver old new outcomes → AllSettled outcomes → IsReady log
+pub published_in_order : (mem more_mem : MemShown) (trail behind : Trail) (old new : Queue) (log : OwnLog) (last_seq handed_seq next_file : ℕ) (sync : Bool) (outcomes : List (ℕ × Outcome))
+    → IsInOrder mem trail old log last_seq handed_seq next_file → IsOver old new outcomes → AllSettled outcomes → IsReady log
     → shown behind ≡ published sync (shown trail) → vec_len behind.batches ≡ vec_len trail.batches → vec_capacity behind.batches ≡ vec_capacity trail.batches
-    → IsInOrder behind new log handed_seq handed_seq next_file
-published_in_order trail behind old new log last_seq handed_seq next_file sync outcomes order q settled ready shows len room =
-    let over = over_in_order trail old new log log last_seq handed_seq next_file outcomes order q settled (over_staged log ready) in
+    → ArePlaced mem more_mem (shown trail)
+    → IsInOrder more_mem behind new log handed_seq handed_seq next_file
+published_in_order mem more_mem trail behind old new log last_seq handed_seq next_file sync outcomes order q settled ready shows len room placed =
+    let over = over_in_order mem trail old new log log last_seq handed_seq next_file outcomes order q settled (over_staged log ready) in
     record {
       seq = seq_published (shown trail) sync last_seq handed_seq order.seq order.handed ∙ ap (λ (t : TrailShown). (point_at t).seq) (sym shows);
       handed = subst (λ (t : TrailShown). handed_seq ≡ handed_seq + count_ops (ops_of t.limbo)) (sym shows) (sym (add-zero handed_seq));
@@ -161,6 +174,7 @@ published_in_order trail behind old new log last_seq handed_seq next_file sync o
       few = over.few;
       staged = over.staged;
       settled = over.settled;
+      held = rw (shows, q.group, q.waiting) (published_held mem more_mem (shown trail) (flying old.group) old.waiting sync order.held placed.rows placed.bytes placed.entries);
       trail_room = omega (arith, over.trail_room, len, room);
       outcome_room = over.outcome_room;
       job = over.job;
@@ -189,12 +203,12 @@ published_view sync view trail waiting group outcomes last_ticket job last limbo
 
 -- ---- an outcome was taken
 
-pub taken_in_order : (trail : Trail) (old new : Queue) (log : OwnLog) (last_seq handed_seq next_file ticket : ℕ)
-    → IsInOrder trail old log last_seq handed_seq next_file → new.waiting ≡ old.waiting → new.group ≡ old.group
+pub taken_in_order : (mem : MemShown) (trail : Trail) (old new : Queue) (log : OwnLog) (last_seq handed_seq next_file ticket : ℕ)
+    → IsInOrder mem trail old log last_seq handed_seq next_file → new.waiting ≡ old.waiting → new.group ≡ old.group
     → new.outcomes.items ≡ filter (λ entry. not (entry.0 == ticket)) old.outcomes.items → vec_len new.outcomes ≤ vec_len old.outcomes
     → vec_capacity new.outcomes ≡ vec_capacity old.outcomes → new.last_ticket ≡ old.last_ticket → new.job ≡ old.job
-    → IsInOrder trail new log last_seq handed_seq next_file
-taken_in_order trail old new log last_seq handed_seq next_file ticket order waiting group outcomes len room last job = record {
+    → IsInOrder mem trail new log last_seq handed_seq next_file
+taken_in_order mem trail old new log last_seq handed_seq next_file ticket order waiting group outcomes len room last job = record {
   seq = order.seq;
   handed = order.handed;
   enough = rw (group, waiting) order.enough;
@@ -202,6 +216,7 @@ taken_in_order trail old new log last_seq handed_seq next_file ticket order wait
   few = rw group order.few;
   staged = rw group order.staged;
   settled = rw outcomes (all_settled-filter (λ entry. not (entry.0 == ticket)) old.outcomes.items order.settled);
+  held = rw (group, waiting) order.held;
   trail_room = rw (group, waiting) order.trail_room;
   outcome_room = rw (group, waiting) (omega (arith, order.outcome_room, len, room));
   job = omega (arith, order.job, job);
@@ -212,12 +227,12 @@ taken_in_order trail old new log last_seq handed_seq next_file ticket order wait
 
 -- ---- those that wait were turned away
 
-pub turned_in_order : (trail : Trail) (old new : Queue) (log : OwnLog) (last_seq handed_seq next_file : ℕ) (outcomes : List (ℕ × Outcome))
-    → IsInOrder trail old log last_seq handed_seq next_file → new.waiting ≡ [] → new.group ≡ old.group
+pub turned_in_order : (mem : MemShown) (trail : Trail) (old new : Queue) (log : OwnLog) (last_seq handed_seq next_file : ℕ) (outcomes : List (ℕ × Outcome))
+    → IsInOrder mem trail old log last_seq handed_seq next_file → new.waiting ≡ [] → new.group ≡ old.group
     → new.outcomes.items ≡ old.outcomes.items ++ outcomes → AllSettled outcomes → vec_len new.outcomes ≡ vec_len old.outcomes + length old.waiting
     → vec_capacity new.outcomes ≡ vec_capacity old.outcomes → new.last_ticket ≡ old.last_ticket → new.job ≡ old.job
-    → IsInOrder trail new log last_seq handed_seq next_file
-turned_in_order trail old new log last_seq handed_seq next_file outcomes order waiting group added settled len room last job = record {
+    → IsInOrder mem trail new log last_seq handed_seq next_file
+turned_in_order mem trail old new log last_seq handed_seq next_file outcomes order waiting group added settled len room last job = record {
   seq = order.seq;
   handed = order.handed;
   enough = rw (group, waiting) (omega (arith, order.enough));
@@ -225,6 +240,7 @@ turned_in_order trail old new log last_seq handed_seq next_file outcomes order w
   few = rw group order.few;
   staged = rw group order.staged;
   settled = rw added (all_settled-append old.outcomes.items outcomes order.settled settled);
+  held = rw (group, waiting) (turned_held mem (shown trail) (flying old.group) old.waiting order.held);
   trail_room = rw (group, waiting) (omega (arith, order.trail_room));
   outcome_room = rw (group, waiting) (omega (arith, order.outcome_room, len, room));
   job = omega (arith, order.job, job);
@@ -246,20 +262,11 @@ pub record IsJoined (trail behind : Trail) (old new : Queue) (batch : Batch) : T
   pub ticket : new.last_ticket ≡ old.last_ticket + 1
   pub job : new.job ≡ old.job
 
-pub joined_ops : (waiting : List Ticketed) (ticket : ℕ) (batch : Batch)
-    → count_ops (ops_of (batches_of (waiting ++ ticketed ticket batch ∷ []))) ≡ count_ops (ops_of (batches_of waiting)) + length batch.ops
-joined_ops [] ticket batch = omega arith
-joined_ops (first ∷ waiting) ticket batch =
-    let rest = joined_ops waiting ticket batch in
-    let whole : count_ops (ops_of (batches_of ((first ∷ waiting) ++ ticketed ticket batch ∷ []))) ≡ length first.batch.ops + count_ops (ops_of (batches_of (waiting ++ ticketed ticket batch ∷ []))) = refl in
-    let part : count_ops (ops_of (batches_of (first ∷ waiting))) ≡ length first.batch.ops + count_ops (ops_of (batches_of waiting)) = refl in
-    omega (arith, rest, whole, part)
-
-pub joined_in_order : (trail behind : Trail) (old new : Queue) (log : OwnLog) (last_seq handed_seq next_file : ℕ) (batch : Batch)
-    → IsInOrder trail old log last_seq handed_seq next_file → IsJoined trail behind old new batch
-    → handed_seq + (count_ops (ops_of (batches_in (flying old.group))) + count_ops (ops_of (batches_of old.waiting))) + length batch.ops ≤ 2 ^ 56 → old.last_ticket < 2 ^ 56
-    → IsInOrder behind new log last_seq handed_seq next_file
-joined_in_order trail behind old new log last_seq handed_seq next_file batch order r enough ticket =
+pub joined_in_order : (mem more_mem : MemShown) (trail behind : Trail) (old new : Queue) (log : OwnLog) (last_seq handed_seq next_file : ℕ) (batch : Batch)
+    → IsInOrder mem trail old log last_seq handed_seq next_file → IsJoined trail behind old new batch
+    → handed_seq + (count_ops (ops_of (batches_in (flying old.group))) + count_ops (ops_of (batches_of old.waiting))) + length batch.ops ≤ 2 ^ 56 → old.last_ticket < 2 ^ 56 → HasRoomMore mem more_mem batch.ops
+    → IsInOrder more_mem behind new log last_seq handed_seq next_file
+joined_in_order mem more_mem trail behind old new log last_seq handed_seq next_file batch order r enough ticket room_more =
     let group = r.group in
     let waiting = r.waiting in
     let member : List Ticketed = ticketed (old.last_ticket + 1) batch ∷ [] in
@@ -274,6 +281,7 @@ joined_in_order trail behind old new log last_seq handed_seq next_file batch ord
       few = rw group order.few;
       staged = rw group order.staged;
       settled = rw r.outcomes order.settled;
+      held = rw (r.shows, group, waiting) (joined_held mem more_mem (shown trail) (flying old.group) old.waiting (old.last_ticket + 1) batch order.held room_more);
       trail_room = rw (group, waiting) (omega (arith, r.trail_room, size, one));
       outcome_room = rw (group, waiting) (omega (arith, r.outcome_room, size, one));
       job = omega (arith, order.job, r.job);

@@ -23,11 +23,11 @@ use Rattle.keel_machine.specs.WritingAfter.{done_each, failure_of, handed_over, 
 use Rattle.keel_core.specs.declared.log.OwnLog.{OwnLog}
 use Rattle.keel_core.specs.declared.log.OwnLog.TheVariants.{Absent, Created, Ready}
 use Rattle.keel_core.specs.Flights.{Flying}
-use Rattle.keel_core.specs.Orders.{IsStaged, point_at}
+use Rattle.keel_core.specs.Orders.{IsStaged}
 use Rattle.keel_core.specs.Queues.{batches_next, group_entered, is_synced, job_entered, next_group, tickets_in, waiting_entered, without_batches}
 use Rattle.keel_core.specs.Steps as steps
 use Rattle.keel_core.specs.Steps.{stopped, all_published, NumberIs, IsGone}
-use Rattle.keel_core.specs.Trails.{TrailShown, handed, published}
+use Rattle.keel_core.specs.Trails.{TrailShown, handed, published, point_at}
 use Rattle.keel_core.specs.Views.{CoreView, Fits, MakesCall, state_of, point_in, shown_group, sync_act}
 use Rattle.keel_core.proofs.Calling.{quiet_same, quiet_want}
 use Rattle.keel_core.proofs.Forming.{by_story, formed_goes, formed_staged}

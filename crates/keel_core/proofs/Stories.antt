@@ -9,8 +9,7 @@ use Rattle.keel_base.specs.declared.op.Op.{Op}
 use Rattle.keel_machine.specs.Admission.{ops_of, count_ops, standing_of}
 use Rattle.keel_machine.specs.States.{Story}
 use Rattle.keel_machine.specs.WritingAfter.{handed_over, story_published}
-use Rattle.keel_core.specs.Orders.{point_at}
-use Rattle.keel_core.specs.Trails.{TrailShown, base_of, handed, published}
+use Rattle.keel_core.specs.Trails.{TrailShown, base_of, handed, published, point_at}
 use Rattle.keel_core.specs.Views.{Fits}
 
 pub ops_of-append : (front back : List Batch) → ops_of (front ++ back) ≡ ops_of front ++ ops_of back

@@ -2,7 +2,9 @@ pub mod Logs
 pub mod Trails
 pub mod Flights
 pub mod Queues
+pub mod Placing
 pub mod Orders
 pub mod Views
 pub mod Steps
 pub mod Openings
+pub mod Scans

@@ -5,6 +5,7 @@ use Rattle.keel_base.specs.declared.op.Batch.{Batch}
 use Rattle.keel_batch.specs.declared.batch.Numbered.{Numbered}
 use Rattle.keel_reading.specs.Logs.{ops_of}
 use Rattle.keel_reading.specs.Replays.{all_numbered}
+use Rattle.keel_machine.specs.Admission as machine
 use Rattle.keel_core.specs.declared.trail.Trail.{Trail}
 
 -- The batches that the opening read, those that were published since, those that were handed to the log and aren't, and
@@ -47,3 +48,7 @@ published sync trail = record {
   limbo = [];
   floor = if sync then length (trail.log ++ trail.limbo) else trail.floor;
 }
+
+-- the map and the sequence behind the published batches
+abbrev pub point_at : TrailShown → Point
+point_at trail = fold_batches (base_of trail) (machine.ops_of trail.log)

@@ -18,8 +18,7 @@ use Rattle.keel_machine.specs.Writing.{write_rest}
 use Rattle.keel_core.specs.declared.log.OwnLog.{OwnLog}
 use Rattle.keel_core.specs.declared.log.OwnLog.TheVariants.{Absent, Created, Ready}
 use Rattle.keel_core.specs.Flights.{Flying}
-use Rattle.keel_core.specs.Orders.{point_at}
-use Rattle.keel_core.specs.Trails.{TrailShown}
+use Rattle.keel_core.specs.Trails.{TrailShown, point_at}
 
 -- ---- parts as the machine has them
 

@@ -14,9 +14,10 @@
 #![tactic(auto)]
 
 mod log;
-mod lookup;
 mod opening;
+mod placing;
 mod queue;
+mod scanning;
 mod sizes;
 mod store;
 mod trail;

@@ -5,12 +5,17 @@ ghost use Rattle.keel_machine.specs.States.{State};
 ghost use Rattle.keel_machine.specs.Turns.{Opening, Answers};
 ghost use Rattle.keel_reading.specs.Answers.{RunsOn};
 ghost use Rattle.keel_core.specs.Openings.{Expects, Opens, fresh};
+ghost use Rattle.keel_core.specs.Placing.{IsPlaced};
+ghost use Rattle.keel_core.specs.Trails.{point_read};
 
 use crate::log::OwnLog;
+use crate::placing::placed;
 use crate::queue::Queue;
 use crate::store::Core;
 use crate::trail::Trail;
+use keel_base::OutOfMemory;
 use keel_disk::Disk;
+use keel_mem::Mem;
 use keel_reading::{Found, OpenRefusal, read_logs};
 use std::alloc::Global;
 
@@ -35,14 +40,21 @@ impl<D: Disk> Core<D> {
     {
         let mut disk = disk;
         match read_logs(alloc, &mut disk) {
-            Ok(found) => Ok(Core::behind(alloc, disk, found)),
+            Ok(found) => match placed(alloc, found.batches.as_slice()) {
+                Ok(mem) => Ok(Core::behind(alloc, disk, found, mem)),
+                Err(OutOfMemory) => Err(Refused {
+                    refusal: OpenRefusal::OutOfMemory,
+                    disk,
+                }),
+            },
             Err(refusal) => Err(Refused { refusal, disk }),
         }
     }
 
     // The store behind what was found, which writes to a log of its own.
-    fn behind(alloc: Global, disk: D, found: Found) -> Core<D>
-        requires { RunsOn found }
+    fn behind(alloc: Global, disk: D, found: Found, mem: Mem) -> Core<D>
+        requires runs { RunsOn found }
+        requires placed { IsPlaced mem (point_read found.batches) }
         ensures { result ≡ fresh (seen (D.told disk) (D.changes disk) (D.faults disk) (D.last_fault disk) (D.is_simulated disk)) found }
     {
         let Found {
@@ -53,6 +65,7 @@ impl<D: Disk> Core<D> {
         Core {
             disk,
             trail: Trail::new(alloc, batches),
+            mem,
             queue: Queue::new(alloc),
             log: OwnLog::Absent,
             last_seq,

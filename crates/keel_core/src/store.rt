@@ -4,19 +4,20 @@ ghost use Rattle.keel_disk.specs.Rule.{IsAllowed};
 ghost use Rattle.keel_disk.specs.Told.{Arranges};
 ghost use Rattle.keel_machine.specs.declared.answers.Outcome.TheVariants.{Waiting};
 ghost use Rattle.keel_machine.specs.Turns as event;
-ghost use Rattle.keel_machine.specs.Turns.{Admitting, Getting, TakingOutcome};
+ghost use Rattle.keel_machine.specs.Turns.{Admitting, Getting, Scanning, TakingOutcome};
 ghost use Rattle.keel_core.specs.Trails.{shown};
 ghost use Rattle.keel_core.specs.Views.{Turns, point_in, calls_left, with_told};
 
 use crate::log::OwnLog;
-use crate::lookup::{latest_value, value_read};
 use crate::queue::Queue;
+use crate::scanning::rows_between;
 use crate::sizes::size_refusal;
 use crate::trail::Trail;
-use keel_base::{Batch, Bytes, Counter, Failure, Listing, OutOfMemory};
+use keel_base::{Batch, Bytes, Counter, Failure, Kind, Listing, OutOfMemory};
 use keel_disk::{Device, Disk, DiskError, Rule};
 use keel_group::{Joined, MAX_WAITING};
-use keel_machine::{Admit, Got, Outcome};
+use keel_machine::{Admit, Got, Outcome, Scanned};
+use keel_mem::Mem;
 use std::alloc::Global;
 use std::marker::Model;
 
@@ -28,6 +29,8 @@ pub(crate) const LAST_NUMBER: u64 = 1 << 56;
 pub struct Core<D: Disk> {
     pub(crate) disk: D,
     pub(crate) trail: Trail,
+    // the rows of the published batches
+    pub(crate) mem: Mem,
     pub(crate) queue: Queue,
     pub(crate) log: OwnLog,
     // the sequence of the last published op, and of the last one that was handed to the log
@@ -59,7 +62,7 @@ impl<D: Disk> Model for Core<D> {
       next_file = c.next_file;
     } };
 
-    ghost invariant = { λ c. IsInOrder c.trail c.queue c.log c.last_seq c.handed_seq c.next_file };
+    ghost invariant = { λ c. IsInOrder c.mem c.trail c.queue c.log c.last_seq c.handed_seq c.next_file };
 }
 
 impl<D: Disk> Core<D> {
@@ -100,6 +103,9 @@ impl<D: Disk> Core<D> {
             return Admit::QueueFull { waiting };
         }
         let held = self.queue.held() + waiting as usize;
+        if self.mem.reserve(&batch).is_err() {
+            return Admit::OutOfMemory;
+        }
         if self.trail.reserve(held + 1).is_err() || self.queue.reserve().is_err() {
             return Admit::OutOfMemory;
         }
@@ -127,13 +133,26 @@ impl<D: Disk> Core<D> {
     pub fn get(&mut self, alloc: Global, key: &[u8]) -> Got
         ensures turn { Turns self.old (Getting key.now result) self.new }
     {
-        let before = value_read(self.trail.read(), key);
-        match latest_value(before, self.trail.log(), key) {
-            Some(value) => match Bytes::from_slice(alloc, value) {
-                Ok(copy) => Got::Value(copy),
-                Err(_) => Got::OutOfMemory,
+        match self.mem.get(key) {
+            Some(found) => match found.kind {
+                Kind::Put => match Bytes::from_slice(alloc, found.value) {
+                    Ok(copy) => Got::Value(copy),
+                    Err(_) => Got::OutOfMemory,
+                },
+                Kind::Del => Got::Absent,
             },
             None => Got::Absent,
+        }
+    }
+
+    /// The published keys of a range with their values, by key: from one key on and below another. An empty `to` is no
+    /// upper bound.
+    pub fn scan(&mut self, alloc: Global, from: &[u8], to: &[u8]) -> Scanned
+        ensures turn { Turns self.old (Scanning from.now to.now result) self.new }
+    {
+        match rows_between(alloc, &self.mem, from, to) {
+            Ok(rows) => Scanned::Rows(rows),
+            Err(OutOfMemory) => Scanned::OutOfMemory,
         }
     }
 

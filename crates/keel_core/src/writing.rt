@@ -13,6 +13,7 @@ ghost use Rattle.keel_core.specs.Steps.{file_rest, next_bytes, NumberIs, IsGone,
 ghost use Rattle.keel_core.specs.Views.{Turns, MakesCall, ComesNearer, CanGoOn, IsRest, Finds, rest_of, point_in};
 
 use crate::log::OwnLog;
+use crate::placing::place;
 use crate::queue::count_ops;
 use crate::store::{Core, LAST_NUMBER};
 use keel_base::{Batch, Bytes, Call, Counter, Failure, Fault, FileName, OutOfMemory, Reason};
@@ -240,6 +241,7 @@ impl<D: Disk> Core<D> {
         ensures step { result ≡ WriteStep.Done self.old.job (point_in self.new).seq (length (tickets_in self.old.group)) }
     {
         let batches = self.queue.in_flight() as u32;
+        place(&mut self.mem, self.last_seq + 1, self.trail.limbo());
         self.queue.settle_done(self.last_seq, self.trail.limbo());
         self.trail.publish(sync);
         self.last_seq = self.handed_seq;

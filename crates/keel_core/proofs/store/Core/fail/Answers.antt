@@ -17,7 +17,7 @@ staged (Ready number size) = tt
 
 pub invariant_of-self : goal.invariant_of-self
 invariant_of-self g c =
-    over_in_order c.self.inside.trail c.self.inside.queue c.settle.new.self c.self.inside.log c.given_up-self-inside.result
+    over_in_order c.self.inside.mem c.self.inside.trail c.self.inside.queue c.settle.new.self c.self.inside.log c.given_up-self-inside.result
     c.self.inside.last_seq c.self.inside.handed_seq c.self.inside.next_file _ c.self.invariant
     (record {
       waiting = c.settle.ensures.waiting;

@@ -46,7 +46,7 @@ invariant_of-self g c =
     let q = c.enter.ensures in
     let stage = rw (← c.self.view_is) at c.requires.stage in
     let can = rw (← c.self.view_is) at c.requires.can in
-    entered_in_order w.trail w.queue c.enter.new.self w.log _ w.last_seq w.handed_seq w.next_file _ c.self.invariant
+    entered_in_order w.mem w.trail w.queue c.enter.new.self w.log _ w.last_seq w.handed_seq w.next_file _ c.self.invariant
     (record { waiting = q.waiting; group = q.group; job = q.job; outcomes = q.outcomes; ticket = q.last_ticket; each = q.each; few = q.few })
     can.job (entered_staged w.queue.waiting (flying w.queue.group) _ (rw stage at c.self.invariant.staged) can.some) (omega arith) (omega (arith, can.file stage))
 
@@ -56,6 +56,6 @@ invariant_of-self-in-Err-Fault g c =
     let q = c.enter-in-Err-Fault.ensures in
     let stage = rw (← c.self.view_is) at c.requires.stage in
     let can = rw (← c.self.view_is) at c.requires.can in
-    entered_in_order w.trail w.queue c.enter-in-Err-Fault.new.self w.log w.log w.last_seq w.handed_seq w.next_file _ c.self.invariant
+    entered_in_order w.mem w.trail w.queue c.enter-in-Err-Fault.new.self w.log w.log w.last_seq w.handed_seq w.next_file _ c.self.invariant
     (record { waiting = q.waiting; group = q.group; job = q.job; outcomes = q.outcomes; ticket = q.last_ticket; each = q.each; few = q.few })
     can.job (entered_staged w.queue.waiting (flying w.queue.group) w.log (rw stage at c.self.invariant.staged) can.some) (omega arith) (omega (arith, can.file stage))

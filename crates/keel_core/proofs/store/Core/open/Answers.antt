@@ -1,8 +1,8 @@
 use Rattle.keel_core.proofs.Opened.{opens, refuses}
 use Rattle.keel_core.proofs.store.Core.open.Goals as goal
 
-pub returns-in-Ok-clause-ok : goal.returns-in-Ok-clause-ok
-returns-in-Ok-clause-ok g c s is expects =
+pub returns-in-Ok-placed-clause-ok : goal.returns-in-Ok-placed-clause-ok
+returns-in-Ok-placed-clause-ok g c s is expects =
     let r = c.in-Ok.ensures in
     rw c.behind.ensures
     (opens s _ _ c.in-Ok.found is expects r.answers r.runs_on (record { same = r.same; count = r.count; cause = r.cause; simulated = r.simulated }))

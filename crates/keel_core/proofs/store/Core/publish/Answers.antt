@@ -1,10 +1,10 @@
-use Rattle.std.proofs.Common.{length, sym, ap, ◌∙◌}
+use Rattle.std.proofs.Common.{◌+◌, ◌++◌, length, sym, ap, ◌∙◌, arith}
 use Rattle.keel_machine.specs.declared.steps.WriteStep.TheVariants as step
 use Rattle.keel_machine.specs.Outside.{seen}
-use Rattle.keel_core.specs.Orders.{point_at}
-use Rattle.keel_core.specs.Trails.{TrailShown, shown}
+use Rattle.keel_core.specs.Trails.{TrailShown, shown, point_at}
 use Rattle.keel_core.specs.Views.{CoreView}
-use Rattle.keel_machine.specs.Admission.{ops_of}
+use Rattle.keel_machine.specs.Admission.{count_ops, ops_of}
+use Rattle.keel_core.specs.Placing.{batch_rows, bytes_needed}
 use Rattle.keel_core.specs.Flights.{flying}
 use Rattle.keel_core.specs.Queues.{tickets_in}
 use Rattle.keel_core.proofs.Ordering.{done_settled, published_in_order, published_view, seq_published}
@@ -13,7 +13,7 @@ use Rattle.keel_core.proofs.store.Core.publish.Goals as goal
 pub invariant_of-self : goal.invariant_of-self
 invariant_of-self g c =
     let w = c.self.inside in
-    published_in_order w.trail c.publish.new.self w.queue c.settle_done.new.self w.log w.last_seq w.handed_seq w.next_file c.args.sync _ c.self.invariant
+    published_in_order w.mem c.place.new.mem w.trail c.publish.new.self w.queue c.settle_done.new.self w.log w.last_seq w.handed_seq w.next_file c.args.sync _ c.self.invariant
     (record {
       waiting = c.settle_done.ensures.waiting;
       group = c.settle_done.ensures.group;
@@ -23,7 +23,12 @@ invariant_of-self g c =
       ticket = c.settle_done.ensures.last_ticket;
       job = c.settle_done.ensures.job;
     })
-    (done_settled w.last_seq (tickets_in (flying w.queue.group)) (ops_of c.limbo.result.now)) (rw (← c.self.view_is) at c.requires) c.publish.ensures.shown c.publish.ensures.count c.publish.ensures.room
+    (done_settled w.last_seq (tickets_in (flying w.queue.group)) (ops_of c.limbo-2.result.now)) (rw (← c.self.view_is) at c.requires) c.publish.ensures.shown c.publish.ensures.count c.publish.ensures.room
+    (record {
+      rows = c.place.ensures.rows ∙ (λ k. w.mem.rows ++ batch_rows (c.self.invariant.seq k + 1) (ops_of (c.limbo.ensures k)));
+      bytes = omega (arith, c.place.ensures.bytes, ap bytes_needed c.limbo.ensures);
+      entries = omega (arith, c.place.ensures.entries, ap (λ l. count_ops (ops_of l)) c.limbo.ensures);
+    })
 
 pub returns-clause-view : goal.returns-clause-view
 returns-clause-view g c =
@@ -43,7 +48,7 @@ returns-clause-view g c =
       next_file = w.next_file;
     } in
     let group = ap flying q.group in
-    rw (← c.self.view_is) (published_view c.args.sync old _ _ _ _ _ _ w.last_seq c.limbo.result.now c.publish.ensures.shown q.waiting group q.outcomes q.last_ticket q.job c.self.invariant.seq c.limbo.ensures)
+    rw (← c.self.view_is) (published_view c.args.sync old _ _ _ _ _ _ w.last_seq c.limbo-2.result.now c.publish.ensures.shown q.waiting group q.outcomes q.last_ticket q.job c.self.invariant.seq c.limbo-2.ensures)
 
 pub returns-clause-step : goal.returns-clause-step
 returns-clause-step g c =

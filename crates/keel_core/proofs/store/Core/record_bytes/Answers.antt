@@ -3,8 +3,7 @@ use Rattle.std.specs.Result.{IfOk}
 use Rattle.keel_frag.specs.Writing.{records_bytes}
 use Rattle.keel_machine.specs.Admission.{count_ops, ops_of}
 use Rattle.keel_machine.specs.Writing.{payloads_from}
-use Rattle.keel_core.specs.Orders.{point_at}
-use Rattle.keel_core.specs.Trails.{shown}
+use Rattle.keel_core.specs.Trails.{shown, point_at}
 use Rattle.keel_core.specs.Flights.{flying}
 use Rattle.keel_core.specs.Queues.{batches_next}
 use Rattle.keel_core.proofs.Batches.{next_count}
