@@ -11,10 +11,13 @@ use Rattle.keel_disk.specs.Listings.{IsListing}
 use Rattle.keel_disk.specs.Told.{Told, Crashes, TellsListing}
 use Rattle.keel_machine.specs.declared.answers.Got.{Got}
 use Rattle.keel_machine.specs.declared.answers.Got.TheVariants as got
+use Rattle.keel_machine.specs.declared.answers.Scanned.{Scanned}
+use Rattle.keel_machine.specs.declared.answers.Scanned.TheVariants as scanned
+use Rattle.keel_base.specs.declared.row.Row.{Row}
 use Rattle.keel_machine.specs.Opening.{continues}
 use Rattle.keel_machine.specs.Outside.{seen}
 use Rattle.keel_machine.specs.States.{State, Seen, Mode, Unopened, Closed, Open as Opened, with_device}
-use Rattle.keel_machine.specs.Turns.{Turn, Answers, after, Opening, Getting, Listing, Crashing}
+use Rattle.keel_machine.specs.Turns.{Turn, Answers, after, Opening, Getting, Scanning, Listing, Crashing}
 use Rattle.keel_machine.specs.Crash.{crash_after, mode_crashed}
 use Rattle.keel_reading.specs.declared.refusal.OpenRefusal.{OpenRefusal}
 use Rattle.keel_reading.specs.declared.refusal.OpenRefusal.TheVariants as refusal
@@ -24,7 +27,7 @@ use Rattle.keel_recovery.specs.Machine.{is_open, IsCovered, Drops, ReadsOnIn}
 use Rattle.keel_recovery.proofs.Crashing.{crash_turns}
 use Rattle.keel_recovery.proofs.GoingOn.{covered_reads}
 use Rattle.keel_script.specs.declared.command.Command.{Command}
-use Rattle.keel_script.specs.declared.command.Command.TheVariants.{Open, Get, Files, Crash}
+use Rattle.keel_script.specs.declared.command.Command.TheVariants.{Open, Get, Scan, Files, Crash}
 use Rattle.keel_script.specs.declared.reply.Reply.{Reply}
 use Rattle.keel_script.specs.declared.reply.Reply.TheVariants as reply
 use Rattle.keel_cli.specs.declared.answer.Answer.{Answer}
@@ -34,7 +37,7 @@ use Rattle.keel_cli.specs.declared.place.Place.TheVariants as place
 use Rattle.keel_cli.specs.Cuts.{StoreCutShort, CarriedOut}
 use Rattle.keel_cli.specs.Places.{IsShut, device_of, Stands, Leads, Leaves, CoreLeads, AreTold}
 use Rattle.keel_cli.specs.Replies.{replies_of}
-use Rattle.keel_cli.specs.Runs.{opening_replies, listing_replies, reading_replies, rest_reply, CrashRun, Calls, RestsOrCalls, CarriesOnStore, CallsPartly}
+use Rattle.keel_cli.specs.Runs.{opening_replies, listing_replies, reading_replies, rest_reply, row_replies, CrashRun, Calls, RestsOrCalls, CarriesOnStore, CallsPartly}
 use Rattle.keel_cli.proofs.Tickets.{state_at, stands_at, told_in}
 
 -- ---- commands that make no call, and those that make some
@@ -80,6 +83,27 @@ module _ (V : Type 0) (shown : V → Seen) where
 pub read_told : (old new : CoreView) (key : List ℕ) (answer : Got) → Turns old (Getting key answer) new → AreTold old.outcomes → AreTold new.outcomes
 read_told old new key answer turns told =
     told_in new (after (state_at old) (Getting key answer) new.device) (turns.goes (state_at old) (stands_at old)).1 told
+
+-- ---- scans
+
+module _ (V : Type 0) (shown : V → Seen) where
+  pub scan_run : (old new : CoreView) (from to : List ℕ) (rows : List Row) → Turns old (Scanning from to (scanned.Rows rows)) new
+      → (s : State) → StandsFor old s → CarriedOut {E = OutOfMemory} shown s (Scan from to) (place.Open new) (Ok (answers.Rows rows))
+  scan_run old new from to rows turns s stands =
+      let gone = turns.goes s stands in
+      let next = after s (Scanning from to (scanned.Rows rows)) new.device in
+      (next, gone.1, calls_on_store s next (Scan from to) (row_replies rows) (none_where s true (Scan from to) (open_mode old s stands) refl) (record { answer = scanned.Rows rows; turn = (gone.0, refl); prints = refl }))
+
+  pub scan_cut : (old new : CoreView) (from to : List ℕ) → Turns old (Scanning from to scanned.OutOfMemory) new
+      → (s : State) → StandsFor old s → Leaves shown (place.Open new) (StoreCutShort s (Scan from to))
+  scan_cut old new from to turns s stands =
+      let gone = turns.goes s stands in
+      let next = after s (Scanning from to scanned.OutOfMemory) new.device in
+      (next, open_device new next gone.1, partly_on_store s next (Scan from to) (none_where s true (Scan from to) (open_mode old s stands) refl) (gone.0, refl))
+
+pub scan_told : (old new : CoreView) (from to : List ℕ) (answer : Scanned) → Turns old (Scanning from to answer) new → AreTold old.outcomes → AreTold new.outcomes
+scan_told old new from to answer turns told =
+    told_in new (after (state_at old) (Scanning from to answer) new.device) (turns.goes (state_at old) (stands_at old)).1 told
 
 -- ---- answers of one reply
 

@@ -5,16 +5,17 @@ use Rattle.keel_disk.specs.declared.error.DiskError.TheVariants as disk
 use Rattle.keel_machine.specs.declared.answers.Admit.{Admit}
 use Rattle.keel_machine.specs.declared.answers.Admit.TheVariants as admit
 use Rattle.keel_machine.specs.declared.answers.Got.TheVariants as got
+use Rattle.keel_machine.specs.declared.answers.Scanned.TheVariants as scanned
 use Rattle.keel_machine.specs.declared.answers.Outcome.{Outcome}
 use Rattle.keel_machine.specs.declared.answers.Outcome.TheVariants as outcome
 use Rattle.keel_machine.specs.declared.steps.WriteStep.{WriteStep}
 use Rattle.keel_machine.specs.declared.steps.WriteStep.TheVariants as step
 use Rattle.keel_machine.specs.States.{State}
-use Rattle.keel_machine.specs.Turns.{Event, Opening, Admitting, Writing, TakingOutcome, Getting, Listing, Crashing, Turn}
+use Rattle.keel_machine.specs.Turns.{Event, Opening, Admitting, Writing, TakingOutcome, Getting, Scanning, Listing, Crashing, Turn}
 use Rattle.keel_reading.specs.declared.refusal.OpenRefusal.TheVariants as refusal
 use Rattle.keel_recovery.specs.Machine.{is_open, MayCall}
 use Rattle.keel_script.specs.declared.command.Command.{Command}
-use Rattle.keel_script.specs.declared.command.Command.TheVariants.{SetOption, Open, Put, Del, Drain, Tick, Get, Files, Crash}
+use Rattle.keel_script.specs.declared.command.Command.TheVariants.{SetOption, Open, Put, Del, QueuePut, QueueDel, Write, Drain, Tick, Get, Scan, Files, Crash}
 use Rattle.keel_script.specs.declared.option_name.OptionName.{OptionName}
 use Rattle.keel_script.specs.declared.reply.Reply.{Reply}
 use Rattle.keel_cli.specs.declared.lines.LineStop.{LineStop}
@@ -23,7 +24,7 @@ use Rattle.keel_cli.specs.declared.lines.StopPlace.{StopPlace}
 use Rattle.keel_cli.specs.Cuts.{StoreCutShort, CutShort}
 use Rattle.keel_cli.specs.Drains.{Moves, DrainRun, DrainCut}
 use Rattle.keel_cli.specs.Ends.{Progress, Stops, LinesEnd}
-use Rattle.keel_cli.specs.Puts.{put_batch, del_batch, PutRun, PutCut, Queues, Waits}
+use Rattle.keel_cli.specs.Puts.{put_batch, del_batch, PutRun, PutCut, QueueRun, Queues, Waits}
 use Rattle.keel_cli.specs.Runs.{rest_reply, CrashRun, Calls, RestsOrCalls, CarriesOnStore, SetRun, Carries, CallsPartly, Run}
 use Rattle.keel_cli.specs.Sessions.{Session}
 use Rattle.keel_cli.proofs.Modes.{mode_written, mode_admitted}
@@ -76,6 +77,10 @@ module _ (C : State → Type 0) (keep : (old new : State) (event : Event) → Ma
   put_cut old new batch (inl turn) is = (admitted old new batch admit.OutOfMemory turn is).kept
   put_cut old new batch (inr cut) is = (queued old new batch cut.0 (step.OutOfMemory ∷ cut.1) cut.2 is).kept
 
+  queued_alone : (old new : State) (batch : Batch) (replies : List Reply) → QueueRun old batch replies new → IsKept old → C new
+  queued_alone old new batch replies (inl refused) is = (admitted old new batch refused.answer refused.turn is).kept
+  queued_alone old new batch replies (inr queues) is = (admitted old new batch (admit.Queued queues.ticket) queues.turn is).kept
+
   -- ---- drains
 
   moved : (old new : State) (made : ℕ) → Moves old made new → IsKept old → IsKept new
@@ -102,6 +107,14 @@ module _ (C : State → Type 0) (keep : (old new : State) (event : Event) → Ma
   calls false old new (Put key value sync) replies opened none run kept = none_some _ none
   calls true old new (Del key sync) replies opened none run kept = put old new (del_batch key sync) replies run (record { opened = opened; kept = kept })
   calls false old new (Del key sync) replies opened none run kept = none_some _ none
+  calls true old new (QueuePut client key value sync) replies opened none run kept = queued_alone old new (put_batch key value sync) replies run (record { opened = opened; kept = kept })
+  calls false old new (QueuePut client key value sync) replies opened none run kept = none_some _ none
+  calls true old new (QueueDel client key sync) replies opened none run kept = queued_alone old new (del_batch key sync) replies run (record { opened = opened; kept = kept })
+  calls false old new (QueueDel client key sync) replies opened none run kept = none_some _ none
+  calls true old new Write replies opened none run kept = (written old new None run.step run.turn (record { opened = opened; kept = kept })).kept
+  calls false old new Write replies opened none run kept = none_some _ none
+  calls true old new (Scan from to) replies opened none run kept = keep old new (Scanning from to run.answer) opened run.turn kept
+  calls false old new (Scan from to) replies opened none run kept = none_some _ none
   calls true old new (Get key) replies opened none run kept = keep old new (Getting key run.answer) opened run.turn kept
   calls false old new (Get key) replies opened none run kept = none_some _ none
   calls true old new (Drain moves) replies opened none run kept = drained moves old new replies run (record { opened = opened; kept = kept })
@@ -124,6 +137,14 @@ module _ (C : State → Type 0) (keep : (old new : State) (event : Event) → Ma
   partly false old new (Put key value sync) opened none cut kept = none_some _ none
   partly true old new (Del key sync) opened none cut kept = put_cut old new (del_batch key sync) cut (record { opened = opened; kept = kept })
   partly false old new (Del key sync) opened none cut kept = none_some _ none
+  partly true old new (QueuePut client key value sync) opened none turn kept = (admitted old new (put_batch key value sync) admit.OutOfMemory turn (record { opened = opened; kept = kept })).kept
+  partly false old new (QueuePut client key value sync) opened none turn kept = none_some _ none
+  partly true old new (QueueDel client key sync) opened none turn kept = (admitted old new (del_batch key sync) admit.OutOfMemory turn (record { opened = opened; kept = kept })).kept
+  partly false old new (QueueDel client key sync) opened none turn kept = none_some _ none
+  partly true old new Write opened none turn kept = (written old new None step.OutOfMemory turn (record { opened = opened; kept = kept })).kept
+  partly false old new Write opened none turn kept = none_some _ none
+  partly true old new (Scan from to) opened none turn kept = keep old new (Scanning from to scanned.OutOfMemory) opened turn kept
+  partly false old new (Scan from to) opened none turn kept = none_some _ none
   partly true old new (Get key) opened none turn kept = keep old new (Getting key got.OutOfMemory) opened turn kept
   partly false old new (Get key) opened none turn kept = none_some _ none
   partly true old new (Drain moves) opened none cut kept = drain_cut moves old new cut (record { opened = opened; kept = kept })

@@ -1,3 +1,4 @@
+pub mod OnErr
 pub mod Endings
 pub mod GoingOn
 pub mod Tickets

@@ -1,10 +1,11 @@
--- The text of a listing.
+-- The texts of a listing and of a scan.
 use Rattle.std.proofs.Common.{◌≡◌, ℕ, List, [], ◌∷◌, ◌++◌, length, map, sym, ap, ◌∙◌, append_assoc, append-nil}
 use Rattle.std.specs.List.{flat_map}
 use Rattle.keel_base.specs.declared.listing.Entry.{Entry}
+use Rattle.keel_base.specs.declared.row.Row.{Row}
 use Rattle.keel_script.specs.declared.reply.Reply.TheVariants as reply
-use Rattle.keel_cli.specs.Replies.{file_line, count_line, full_line, text}
-use Rattle.keel_cli.specs.Runs.{file_replies}
+use Rattle.keel_cli.specs.Replies.{file_line, count_line, full_line, row_line, rows_line, text}
+use Rattle.keel_cli.specs.Runs.{file_replies, row_replies}
 
 file_lines : (front : List Entry) (count : ℕ) → flat_map file_line front ++ count_line count
     ≡ text (map (λ (entry : Entry). reply.FileLine entry.name entry.size) front ++ reply.Files count ∷ [])
@@ -15,3 +16,12 @@ file_lines (entry ∷ front) count = append_assoc (full_line (reply.FileLine ent
 
 pub listing_text : (listing : List Entry) → flat_map file_line listing ++ count_line (length listing) ≡ text (file_replies listing)
 listing_text listing = file_lines listing (length listing)
+
+row_lines : (front : List Row) (count : ℕ) → flat_map row_line front ++ rows_line count ≡ text (map (λ (row : Row). reply.Row row.key row.value) front ++ reply.Rows count ∷ [])
+unfolding row_line rows_line
+row_lines [] count = sym (append-nil (full_line (reply.Rows count)))
+row_lines (row ∷ front) count = append_assoc (full_line (reply.Row row.key row.value)) (flat_map row_line front) (rows_line count)
+    ∙ ap (λ l. full_line (reply.Row row.key row.value) ++ l) (row_lines front count)
+
+pub scan_text : (rows : List Row) → flat_map row_line rows ++ rows_line (length rows) ≡ text (row_replies rows)
+scan_text rows = row_lines rows (length rows)

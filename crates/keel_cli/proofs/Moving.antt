@@ -1,11 +1,16 @@
 -- The steps of a drain, from one core to the next.
-use Rattle.std.proofs.Common.{◌≡◌, ℕ, ◌+◌, ◌<◌, None, refl, subst, inl, inr, add-one}
+use Rattle.std.proofs.Common.{◌≡◌, ℕ, ◌+◌, ◌<◌, Some, None, Result, Ok, Err, refl, subst, inl, inr, add-one}
+use Rattle.std.specs.Prelude.{IfOk, IsErr, OnErr}
+use Rattle.keel_base.specs.declared.memory.OutOfMemory.{OutOfMemory as no_memory}
 use Rattle.keel_machine.specs.declared.steps.WriteStep.{WriteStep}
 use Rattle.keel_machine.specs.declared.steps.WriteStep.TheVariants.{OutOfMemory}
+use Rattle.keel_machine.specs.declared.steps.WriteStep.TheVariants as steps
 use Rattle.keel_machine.specs.States.{State}
 use Rattle.keel_machine.specs.Turns.{Turn, Writing, after}
 use Rattle.keel_core.specs.Views.{CoreView, StandsFor, Turns}
+use Rattle.keel_script.specs.declared.reply.Reply.{Reply}
 use Rattle.keel_script.specs.declared.reply.Reply.TheVariants.{Quiet, More}
+use Rattle.keel_cli.specs.Writes.{WriteRun, WriteCut, step_replies}
 use Rattle.std.proofs.Common.{[], ◌∷◌}
 use Rattle.keel_cli.specs.Drains.{IsRest, IsMove, Moves, DrainRun, DrainCut}
 use Rattle.keel_cli.specs.Places.{AreTold, CoreLeads}
@@ -47,3 +52,20 @@ want_cut first core new made moves gone turns fewer s stands =
 pub step_told : (core new : CoreView) (step : WriteStep) → Turns core (Writing None step) new → AreTold core.outcomes → AreTold new.outcomes
 step_told core new step turns told =
     told_in new (after (state_at core) (Writing None step) new.device) (turns.goes (state_at core) (stands_at core)).1 (write_told step (state_at core) told)
+
+-- ---- one step as a command
+
+pub write_run : (old new : CoreView) (step : WriteStep) (r : Result Reply no_memory) → Turns old (Writing None step) new → IfOk r (λ x. step_replies step ≡ Some (x ∷ []))
+    → (s : State) → StandsFor old s → IfOk r (λ x. CoreLeads new (WriteRun s (x ∷ [])))
+write_run old new step (Ok x) turns printed s stands =
+    let went = turns.goes s stands in
+    (after s (Writing None step) new.device, went.1, record { step = step; turn = (went.0, refl); prints = printed })
+write_run old new step (Err e) turns printed s stands = tt
+
+pub write_cut : (old new : CoreView) (step : WriteStep) (r : Result Reply no_memory) → Turns old (Writing None step) new → (IsErr r → step ≡ steps.OutOfMemory)
+    → (s : State) → StandsFor old s → OnErr r (CoreLeads new (WriteCut s))
+write_cut old new step (Ok x) turns cut s stands = tt
+write_cut old new step (Err e) turns cut s stands =
+    let want = subst (λ (made : WriteStep). Turns old (Writing None made) new) (cut refl) turns in
+    let went = want.goes s stands in
+    (after s (Writing None steps.OutOfMemory) new.device, went.1, (went.0, refl))

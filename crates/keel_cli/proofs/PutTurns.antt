@@ -21,7 +21,7 @@ use Rattle.keel_core.specs.Views.{CoreView, StandsFor, Turns}
 use Rattle.keel_script.specs.declared.reply.Reply.{Reply}
 use Rattle.keel_script.specs.declared.reply.Reply.TheVariants as reply
 use Rattle.keel_cli.specs.Places.{AreTold, CoreLeads}
-use Rattle.keel_cli.specs.Puts.{Queues, PutRun, PutCut, refusal_replies, outcome_replies}
+use Rattle.keel_cli.specs.Puts.{Queues, PutRun, PutCut, QueueRun, QueueCut, refusal_replies, outcome_replies}
 use Rattle.keel_cli.proofs.Sizes.{one_op_fits}
 use Rattle.keel_cli.proofs.Tickets.{KnownIn, state_at, stands_at, told_in, told_filter, fine_in, queued_fine, write_fine, Known, told_known, waits_known}
 
@@ -39,6 +39,24 @@ pub refused_cut : (old new : CoreView) (batch : Batch) → Turns old (Admitting 
 refused_cut old new batch turns s stands =
     let gone = turns.goes s stands in
     (after s (Admitting batch admit.OutOfMemory) new.device, gone.1, inl (gone.0, refl))
+
+-- of a batch that is to be queued alone
+pub queue_refused : (old new : CoreView) (batch : Batch) (answer : Admit) (replies : List Reply) → Turns old (Admitting batch answer) new
+    → refusal_replies answer ≡ Some replies → (s : State) → StandsFor old s → CoreLeads new (QueueRun s batch replies)
+queue_refused old new batch answer replies turns prints s stands =
+    let gone = turns.goes s stands in
+    (after s (Admitting batch answer) new.device, gone.1, inl (record { answer = answer; turn = (gone.0, refl); prints = prints }))
+
+pub queue_run : (old new : CoreView) (batch : Batch) (ticket : ℕ) → Turns old (Admitting batch (admit.Queued ticket)) new
+    → (s : State) → StandsFor old s → CoreLeads new (QueueRun s batch (reply.Queued ticket ∷ []))
+queue_run old new batch ticket turns s stands =
+    let gone = turns.goes s stands in
+    (after s (Admitting batch (admit.Queued ticket)) new.device, gone.1, inr (record { ticket = ticket; turn = (gone.0, refl); prints = refl }))
+
+pub queue_cut : (old new : CoreView) (batch : Batch) → Turns old (Admitting batch admit.OutOfMemory) new → (s : State) → StandsFor old s → CoreLeads new (QueueCut s batch)
+queue_cut old new batch turns s stands =
+    let gone = turns.goes s stands in
+    (after s (Admitting batch admit.OutOfMemory) new.device, gone.1, (gone.0, refl))
 
 admit_told : (s : State) (batch : Batch) (answer : Admit) → AreTold s.writing.outcomes → AreTold (admit_after s batch answer).writing.outcomes
 admit_told s batch (admit.Queued ticket) told = told

@@ -1,5 +1,5 @@
 -- What becomes of a ticket in the turns of the machine.
-use Rattle.std.proofs.Common.{◌≡◌, ◌≢◌, ◌⊎◌, ℕ, ◌+◌, ◌==◌, ◌||◌, Bool, true, false, cond, List, [], ◌∷◌, ◌++◌, map, find, filter, length, Option, Some, None, IsSome, IfSome, option_map, option_to_list, unwrap_or, if◌then◌else◌, refl, sym, ◌∙◌, subst, inl, inr, arith, append-nil, eq-eqb}
+use Rattle.std.proofs.Common.{◌≡◌, ◌≢◌, ◌⊎◌, ℕ, ◌+◌, ◌==◌, ◌||◌, Bool, true, false, cond, List, [], ◌∷◌, ◌++◌, map, find, filter, length, drop, ap, Option, Some, None, IsSome, IfSome, option_map, option_to_list, unwrap_or, if◌then◌else◌, refl, sym, ◌∙◌, subst, inl, inr, arith, append-nil, eq-eqb}
 use Rattle.std.proofs.lemmas.List.{map-append}
 use Rattle.std.specs.List.{list_any}
 use Rattle.std.proofs.lemmas.List.Folds.{list_any-append}
@@ -9,11 +9,13 @@ use Rattle.keel_machine.specs.declared.answers.Outcome.{Outcome}
 use Rattle.keel_machine.specs.declared.answers.Outcome.TheVariants as outcome
 use Rattle.keel_machine.specs.declared.steps.WriteStep.{WriteStep}
 use Rattle.keel_machine.specs.declared.steps.WriteStep.TheVariants as step
-use Rattle.keel_machine.specs.Admission.{ops_of, standing_of, tickets_of_group, outcome_kept, is_on_its_way, outcome_of, queued}
+use Rattle.keel_group.proofs.Dividing.{all_of}
+use Rattle.keel_base.specs.declared.op.Op.{Op}
+use Rattle.keel_machine.specs.Admission.{last_seq, ops_of, standing_of, tickets_of_group, outcome_kept, is_on_its_way, outcome_of, queued}
 use Rattle.keel_group.specs.Queue.{Ticketed}
 use Rattle.keel_machine.specs.States.{State, Unknown, Story, Group, Act, MakeLog, SyncDirectory, AddRecords, SyncLog}
 use Rattle.keel_machine.specs.Writing.{ready, started_or, group_bytes}
-use Rattle.keel_machine.specs.WritingAfter.{file_drawn, own_log, log_longer, handed_over, goes_on, act_done, act_failed, first_done, first_failed, group_done, group_failed, call_done, call_failed, queue_turned, write_after}
+use Rattle.keel_machine.specs.WritingAfter.{done_each, seq_behind, file_drawn, own_log, log_longer, handed_over, goes_on, act_done, act_failed, first_done, first_failed, group_done, group_failed, call_done, call_failed, queue_turned, write_after}
 use Rattle.keel_core.specs.Trails.{TrailShown, base_of}
 use Rattle.keel_core.specs.Views.{CoreView, StandsFor, state_of}
 use Rattle.keel_cli.specs.Places.{IsTold, AreTold}
@@ -109,6 +111,19 @@ kept_given ticket out (first ∷ tickets) holds =
     → IsSome (option_map (λ (e : ℕ × Outcome). e.1) (cond v (Some (first, out)) (find (λ (e : ℕ × Outcome). e.0 == ticket) (given out tickets)))))
     [ true ↦ (λ is. refl) | false ↦ rest ]) holds
 
+told_done : (seq : ℕ) (tickets : List ℕ) (batches : List (List Op)) → AreTold (done_each seq tickets batches)
+told_done seq [] batches = tt
+told_done seq (ticket ∷ tickets) batches = (tt, told_done (seq_behind seq batches) tickets (drop 1 batches))
+
+kept_done : (ticket seq : ℕ) (tickets : List ℕ) (batches : List (List Op)) → any ticket tickets ≡ true → IsSome (outcome_kept ticket (done_each seq tickets batches))
+kept_done ticket seq [] batches holds = absurd cc
+kept_done ticket seq (first ∷ tickets) batches holds =
+    let last = seq_behind seq batches in
+    let rest = kept_done ticket last tickets (drop 1 batches) in
+    (elim (first == ticket) as (λ v. (v || any ticket tickets) ≡ true
+    → IsSome (option_map (λ (e : ℕ × Outcome). e.1) (cond v (Some (first, outcome.Done last)) (find (λ (e : ℕ × Outcome). e.0 == ticket) (done_each last tickets (drop 1 batches))))))
+    [ true ↦ (λ is. refl) | false ↦ rest ]) holds
+
 -- ---- a ticket in a state
 
 -- it is on its way, or its outcome is kept
@@ -129,11 +144,20 @@ settled_known ticket out tickets waiting outcomes holds =
       | inr is ↦ inl is
     ]
 
+-- tickets of which one may be this one are done, and the others wait
+done_known : (ticket seq : ℕ) (tickets waiting : List ℕ) (outcomes : List (ℕ × Outcome)) (batches : List (List Op))
+    → any ticket (tickets ++ waiting) ≡ true → (any ticket waiting ≡ true) ⊎ IsSome (outcome_kept ticket (outcomes ++ done_each seq tickets batches))
+done_known ticket seq tickets waiting outcomes batches holds =
+    elim (any_cases ticket tickets waiting holds) [
+      | inl is ↦ inr (kept_right ticket outcomes (done_each seq tickets batches) (kept_done ticket seq tickets batches is))
+      | inr is ↦ inl is
+    ]
+
 goes_on_fine : (ticket : ℕ) (sync : Bool) (group : Group) (later : List Act) (s : State)
     → AreTold s.writing.outcomes → any ticket (group.tickets ++ waiting_tickets s) ≡ true → Fine ticket (goes_on sync group later s)
 goes_on_fine ticket sync group [] s told holds = record {
-  told = told_append s.writing.outcomes _ told (told_given _ group.tickets tt);
-  known = settled_known ticket _ group.tickets (waiting_tickets s) s.writing.outcomes holds;
+  told = told_append s.writing.outcomes _ told (told_done (last_seq s) group.tickets s.story.limbo);
+  known = done_known ticket (last_seq s) group.tickets (waiting_tickets s) s.writing.outcomes s.story.limbo holds;
 }
 goes_on_fine ticket sync group (act ∷ later) s told holds = record { told = told; known = inl holds }
 
@@ -203,7 +227,7 @@ ready_keeps : (ticket : ℕ) (running : Option Group) (waiting : List Ticketed) 
     → is_on_its_way ticket s ≡ true → is_on_its_way ticket (started_or running s) ≡ true
 ready_keeps ticket (Some group) waiting s is waits holds = holds
 ready_keeps ticket None [] s is waits holds = rw waits (rw waits at holds)
-ready_keeps ticket None (first ∷ rest) s is waits holds = rw waits (rw (is, waits) at holds)
+ready_keeps ticket None (first ∷ rest) s is waits holds = rw waits (ap (any ticket) (all_of (first ∷ rest)).tickets ∙ (rw (is, waits) at holds))
 
 ready_told : (running : Option Group) (waiting : List Ticketed) (s : State) → s.writing.waiting ≡ waiting → AreTold s.writing.outcomes → AreTold (started_or running s).writing.outcomes
 ready_told (Some group) waiting s waits told = told
@@ -246,7 +270,7 @@ write_fine ticket step.OutOfMemory s told holds = record { told = told; known = 
 -- ---- outcomes stay told, whatever the tickets
 
 goes_on_told : (sync : Bool) (group : Group) (later : List Act) (s : State) → AreTold s.writing.outcomes → AreTold (goes_on sync group later s).writing.outcomes
-goes_on_told sync group [] s told = told_append s.writing.outcomes _ told (told_given _ group.tickets tt)
+goes_on_told sync group [] s told = told_append s.writing.outcomes _ told (told_done (last_seq s) group.tickets s.story.limbo)
 goes_on_told sync group (act ∷ later) s told = told
 
 act_done_told : (act : Act) (group : Group) (later : List Act) (s : State) → AreTold s.writing.outcomes → AreTold (act_done act group later s).writing.outcomes

@@ -1,6 +1,7 @@
 pub mod Sessions
 pub mod Grammar
 pub mod Puts
+pub mod Writes
 pub mod Drains
 pub mod Runs
 pub mod Replies

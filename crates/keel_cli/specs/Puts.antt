@@ -88,3 +88,17 @@ abbrev pub PutCut : State → Batch → State → Type 0
 PutCut old batch new =
     Turn old (Admitting batch admit.OutOfMemory) new
     ⊎ ((ticket : ℕ) × (steps : List WriteStep) × Queues old batch ticket (step.OutOfMemory ∷ steps) new)
+
+-- the batch waits, under this ticket, and no write step is made
+pub record IsQueued (old : State) (batch : Batch) (replies : List Reply) (new : State) : Type 0 where
+  pub ticket : ℕ
+  pub turn : Turn old (Admitting batch (admit.Queued ticket)) new
+  pub prints : replies ≡ reply.Queued ticket ∷ []
+
+-- a batch that is to be queued alone is answered by these replies
+abbrev pub QueueRun : State → Batch → List Reply → State → Type 0
+QueueRun old batch replies new = PutRefused old batch replies new ⊎ IsQueued old batch replies new
+
+-- memory ended at its admission
+abbrev pub QueueCut : State → Batch → State → Type 0
+QueueCut old batch new = Turn old (Admitting batch admit.OutOfMemory) new

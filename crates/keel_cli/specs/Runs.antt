@@ -1,6 +1,7 @@
 -- The runs of the machine over commands, and how far a run over lines has come.
 use Rattle.std.specs.Prelude.{◌≡◌, ◌⊎◌, ℕ, ◌+◌, ◌-◌, ◌^◌, min, Bool, true, false, Option, None, Some, List, [], ◌∷◌, ◌++◌, length, map, Result, Ok, Err}
 use Rattle.keel_base.specs.declared.listing.Entry.{Entry}
+use Rattle.keel_base.specs.declared.row.Row.{Row}
 use Rattle.keel_disk.specs.declared.error.DiskError.{DiskError}
 use Rattle.keel_disk.specs.declared.error.DiskError.TheVariants as disk
 use Rattle.keel_reading.specs.declared.refusal.OpenRefusal.{OpenRefusal}
@@ -8,18 +9,21 @@ use Rattle.keel_reading.specs.declared.refusal.OpenRefusal.TheVariants as refusa
 use Rattle.keel_reading.specs.declared.replay.Found.{Found}
 use Rattle.keel_machine.specs.declared.answers.Got.{Got}
 use Rattle.keel_machine.specs.declared.answers.Got.TheVariants as got
+use Rattle.keel_machine.specs.declared.answers.Scanned.{Scanned}
+use Rattle.keel_machine.specs.declared.answers.Scanned.TheVariants as scanned
 use Rattle.keel_machine.specs.States.{State}
-use Rattle.keel_machine.specs.Turns.{Turn, Opening, Getting, Listing, Crashing}
+use Rattle.keel_machine.specs.Turns.{Turn, Opening, Getting, Scanning, Listing, Crashing}
 use Rattle.keel_recovery.specs.Machine.{is_open}
 use Rattle.keel_script.specs.declared.command.Command.{Command}
-use Rattle.keel_script.specs.declared.command.Command.TheVariants.{SetOption, Open, Put, Del, Drain, Tick, Get, Files, Crash}
+use Rattle.keel_script.specs.declared.command.Command.TheVariants.{SetOption, Open, Put, Del, QueuePut, QueueDel, Write, Drain, Tick, Get, Scan, Files, Crash}
 use Rattle.keel_script.specs.declared.option_name.OptionName.{OptionName}
 use Rattle.keel_script.specs.declared.reply.Reply.{Reply}
 use Rattle.keel_script.specs.declared.reply.Reply.TheVariants as reply
 use Rattle.keel_script.specs.Options.{range_of}
 use Rattle.keel_settings.specs.Values.{IsWithin, SetsOne}
 use Rattle.keel_cli.specs.Drains.{DrainRun, DrainCut}
-use Rattle.keel_cli.specs.Puts.{put_batch, del_batch, PutRun, PutCut}
+use Rattle.keel_cli.specs.Puts.{put_batch, del_batch, PutRun, PutCut, QueueRun, QueueCut}
+use Rattle.keel_cli.specs.Writes.{WriteRun, WriteCut}
 use Rattle.keel_cli.specs.Sessions.{Session, with_store}
 
 -- ---- replies to calls
@@ -37,6 +41,14 @@ abbrev pub reading_replies : Got → Option (List Reply)
 reading_replies (got.Value value) = Some (reply.Value value ∷ [])
 reading_replies got.Absent = Some (reply.Absent ∷ [])
 reading_replies got.OutOfMemory = None
+
+-- a line for each row, and their number
+abbrev pub row_replies : List Row → List Reply
+row_replies rows = map (λ (row : Row). reply.Row row.key row.value) rows ++ reply.Rows (length rows) ∷ []
+
+abbrev pub scan_replies : Scanned → Option (List Reply)
+scan_replies (scanned.Rows rows) = Some (row_replies rows)
+scan_replies scanned.OutOfMemory = None
 
 -- a line for each file, and their number
 abbrev pub file_replies : List Entry → List Reply
@@ -66,6 +78,12 @@ pub record GetRun (old : State) (key : List ℕ) (replies : List Reply) (new : S
   pub turn : Turn old (Getting key answer) new
   pub prints : reading_replies answer ≡ Some replies
 
+-- a scan with these replies
+pub record ScanRun (old : State) (from to : List ℕ) (replies : List Reply) (new : State) : Type 0 where
+  pub answer : Scanned
+  pub turn : Turn old (Scanning from to answer) new
+  pub prints : scan_replies answer ≡ Some replies
+
 -- a listing with these replies
 pub record ListRun (old : State) (replies : List Reply) (new : State) : Type 0 where
   pub answer : Result (List Entry) DiskError
@@ -85,6 +103,14 @@ rest_reply true (Put key value sync) = None
 rest_reply false (Put key value sync) = Some reply.NotOpen
 rest_reply true (Del key sync) = None
 rest_reply false (Del key sync) = Some reply.NotOpen
+rest_reply true (QueuePut client key value sync) = None
+rest_reply false (QueuePut client key value sync) = Some reply.NotOpen
+rest_reply true (QueueDel client key sync) = None
+rest_reply false (QueueDel client key sync) = Some reply.NotOpen
+rest_reply true Write = None
+rest_reply false Write = Some reply.NotOpen
+rest_reply true (Scan from to) = None
+rest_reply false (Scan from to) = Some reply.NotOpen
 rest_reply true (Get key) = None
 rest_reply false (Get key) = Some reply.NotOpen
 rest_reply true (Drain moves) = None
@@ -98,7 +124,11 @@ abbrev pub Calls : State → Command → List Reply → State → Type 0
 Calls old Open replies new = OpenRun old replies new
 Calls old (Put key value sync) replies new = PutRun old (put_batch key value sync) replies new
 Calls old (Del key sync) replies new = PutRun old (del_batch key sync) replies new
+Calls old (QueuePut client key value sync) replies new = QueueRun old (put_batch key value sync) replies new
+Calls old (QueueDel client key sync) replies new = QueueRun old (del_batch key sync) replies new
+Calls old Write replies new = WriteRun old replies new
 Calls old (Get key) replies new = GetRun old key replies new
+Calls old (Scan from to) replies new = ScanRun old from to replies new
 Calls old (Drain moves) replies new = DrainRun moves old replies new
 Calls old Files replies new = ListRun old replies new
 Calls old (Crash dirops keep garbage seed) replies new = CrashRun old.device.simulated old replies new
@@ -163,7 +193,11 @@ abbrev pub CallsPartly : State → Command → State → Type 0
 CallsPartly old Open new = Turn old (Opening (Err refusal.OutOfMemory)) new
 CallsPartly old (Put key value sync) new = PutCut old (put_batch key value sync) new
 CallsPartly old (Del key sync) new = PutCut old (del_batch key sync) new
+CallsPartly old (QueuePut client key value sync) new = QueueCut old (put_batch key value sync) new
+CallsPartly old (QueueDel client key sync) new = QueueCut old (del_batch key sync) new
+CallsPartly old Write new = WriteCut old new
 CallsPartly old (Get key) new = Turn old (Getting key got.OutOfMemory) new
+CallsPartly old (Scan from to) new = Turn old (Scanning from to scanned.OutOfMemory) new
 CallsPartly old (Drain moves) new = DrainCut moves old new
 CallsPartly old Files new = Turn old (Listing (Err disk.OutOfMemory)) new
 CallsPartly old command new = ⊥

@@ -1,9 +1,9 @@
 // What a command is answered, and its text.
 ghost use Rattle.std.specs.Prelude.{◌≡◌, ◌++◌, length, IfOk, OnOk};
 ghost use Rattle.std.specs.List.{flat_map};
-ghost use Rattle.keel_cli.specs.Replies.{count_line, file_line, full_line, replies_of, text};
+ghost use Rattle.keel_cli.specs.Replies.{count_line, file_line, full_line, replies_of, row_line, rows_line, text};
 
-use keel_base::{Bytes, Entry, Listing, OutOfMemory};
+use keel_base::{Bytes, Entry, Listing, OutOfMemory, Row, Rows};
 use keel_script::{Reply, print_reply};
 use std::alloc::Global;
 
@@ -13,6 +13,8 @@ pub enum Answer {
     One(Reply),
     /// A line for each file, and their number.
     Files(Listing),
+    /// A line for each row, and their number.
+    Rows(Rows),
 }
 
 // Adds the line of a reply.
@@ -54,6 +56,36 @@ fn list_text(alloc: Global, entries: &[Entry]) -> Result<Bytes, OutOfMemory>
     Ok(lines)
 }
 
+// Adds the line of a row.
+fn add_row(alloc: Global, lines: &mut Bytes, row: &Row) -> Result<(), OutOfMemory>
+    ensures { OnOk result (lines.new ≡ lines.old ++ row_line row.now) }
+{
+    let reply = Reply::Row {
+        key: Bytes::from_slice(alloc, row.key.as_slice())?,
+        value: Bytes::from_slice(alloc, row.value.as_slice())?,
+    };
+    add_line(alloc, lines, &reply)
+}
+
+// Adds the line that says how many rows there are.
+fn add_row_count(alloc: Global, lines: &mut Bytes, count: u64) -> Result<(), OutOfMemory>
+    ensures { OnOk result (lines.new ≡ lines.old ++ rows_line count) }
+{
+    add_line(alloc, lines, &Reply::Rows { count })
+}
+
+// The lines of rows, and of their number.
+fn scan_text(alloc: Global, rows: &[Row]) -> Result<Bytes, OutOfMemory>
+    ensures { IfOk result (λ lines. lines ≡ flat_map row_line rows.now ++ rows_line (length rows.now)) }
+{
+    let mut lines = Bytes::new(alloc);
+    for row in rows {
+        add_row(alloc, &mut lines, row)?;
+    }
+    add_row_count(alloc, &mut lines, rows.len() as u64)?;
+    Ok(lines)
+}
+
 /// The text of an answer: each reply's line with its newline.
 pub fn text_of(alloc: Global, answer: &Answer) -> Result<Bytes, OutOfMemory>
     ensures { IfOk result (λ lines. lines ≡ text (replies_of answer.now)) }
@@ -65,5 +97,6 @@ pub fn text_of(alloc: Global, answer: &Answer) -> Result<Bytes, OutOfMemory>
             Ok(lines)
         }
         Answer::Files(listing) => list_text(alloc, listing.as_slice()),
+        Answer::Rows(rows) => scan_text(alloc, rows.as_slice()),
     }
 }

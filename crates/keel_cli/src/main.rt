@@ -21,6 +21,7 @@ mod driver;
 mod lines;
 mod place;
 mod putting;
+mod stepping;
 mod top;
 
 pub use answer::{Answer, text_of};

@@ -14,11 +14,12 @@ ghost use Rattle.keel_disk.specs.declared.error.DiskError.TheVariants as disk;
 
 use crate::Answer;
 use crate::draining::drain;
-use crate::putting::{delete_key, put_pair};
+use crate::putting::{delete_key, put_pair, queue_delete, queue_pair};
+use crate::stepping::write;
 use keel_base::{Bytes, Listing, OutOfMemory};
 use keel_core::{Core, Refused};
 use keel_disk::{Device, DiskError, Pick};
-use keel_machine::Got;
+use keel_machine::{Got, Scanned};
 use keel_reading::OpenRefusal;
 use keel_script::{Command, Reply};
 use std::alloc::Global;
@@ -113,6 +114,25 @@ fn read_key<V: Device>(alloc: Global, core: Core<V>, key: &Bytes) -> Carried<V>
     }
 }
 
+fn scan_keys<V: Device>(alloc: Global, core: Core<V>, from: &Bytes, to: &Bytes) -> Carried<V>
+    requires { AreTold core.outcomes }
+    ensures tidy { IsTidy result.place }
+    ensures out { (s : State) → StandsFor core s
+        → CarriedOut (shown_by V.told V.changes V.faults V.last_fault V.is_simulated) s (command.Scan from.now to.now) result.place result.answer }
+{
+    let mut core = core;
+    match core.scan(alloc, from.as_slice(), to.as_slice()) {
+        Scanned::Rows(rows) => Carried {
+            place: Place::Open(core),
+            answer: Ok(Answer::Rows(rows)),
+        },
+        Scanned::OutOfMemory => Carried {
+            place: Place::Open(core),
+            answer: Err(OutOfMemory),
+        },
+    }
+}
+
 // What a listing is answered.
 fn list_answer(listed: Result<Listing, DiskError>) -> Result<Answer, OutOfMemory>
     ensures ok { IfOk result (λ answer. listing_replies listed ≡ Some (replies_of answer)) }
@@ -180,7 +200,14 @@ fn rest_reply(is_open: bool, command: &Command) -> Option<Reply>
 {
     match command {
         Command::Open => { if is_open { Some(Reply::IsOpen) } else { None } }
-        Command::Put { .. } | Command::Del { .. } | Command::Get { .. } | Command::Drain { .. } => {
+        Command::Put { .. }
+        | Command::Del { .. }
+        | Command::QueuePut { .. }
+        | Command::QueueDel { .. }
+        | Command::Write
+        | Command::Get { .. }
+        | Command::Scan { .. }
+        | Command::Drain { .. } => {
             if is_open { None } else { Some(Reply::NotOpen) }
         }
         Command::Files | Command::Crash { .. } => None,
@@ -256,6 +283,29 @@ fn carry_open<V: Device>(alloc: Global, core: Core<V>, command: &Command) -> Car
                 answer: one(reply),
             }
         }
+        Command::QueuePut {
+            key, value, sync, ..
+        } => {
+            let reply = queue_pair(alloc, &mut core, key, value, *sync);
+            Carried {
+                place: Place::Open(core),
+                answer: one(reply),
+            }
+        }
+        Command::QueueDel { key, sync, .. } => {
+            let reply = queue_delete(alloc, &mut core, key, *sync);
+            Carried {
+                place: Place::Open(core),
+                answer: one(reply),
+            }
+        }
+        Command::Write => {
+            let reply = write(alloc, &mut core);
+            Carried {
+                place: Place::Open(core),
+                answer: one(reply),
+            }
+        }
         Command::Drain { moves } => {
             let reply = drain(alloc, &mut core, *moves);
             Carried {
@@ -264,6 +314,7 @@ fn carry_open<V: Device>(alloc: Global, core: Core<V>, command: &Command) -> Car
             }
         }
         Command::Get { key } => read_key(alloc, core, key),
+        Command::Scan { from, to } => scan_keys(alloc, core, from, to),
         Command::Files => list_open(alloc, core),
         Command::Crash {
             dirops,

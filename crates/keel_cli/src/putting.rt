@@ -5,7 +5,7 @@ ghost use Rattle.keel_machine.specs.declared.answers.Admit.TheVariants.{BadSize}
 ghost use Rattle.keel_machine.specs.declared.answers.Part.TheVariants as parts;
 ghost use Rattle.keel_core.specs.Views.{StandsFor};
 ghost use Rattle.keel_cli.specs.Places.{AreTold, CoreLeads};
-ghost use Rattle.keel_cli.specs.Puts.{put_batch as batch_of_put, del_batch as batch_of_del, refusal_replies, PutRun, PutCut};
+ghost use Rattle.keel_cli.specs.Puts.{put_batch as batch_of_put, del_batch as batch_of_del, refusal_replies, PutRun, PutCut, QueueRun, QueueCut};
 
 use keel_base::{Batch, Bytes, Op, Ops, OutOfMemory};
 use keel_core::Core;
@@ -76,6 +76,46 @@ fn put_batch<V: Device>(
     }
 }
 
+// Admits a batch, and makes no write step.
+fn queue_batch<V: Device>(core: &mut Core<V>, batch: Batch) -> Result<Reply, OutOfMemory>
+    requires one { length batch.ops ≡ 1 }
+    requires told { AreTold core.old.outcomes }
+    ensures carried { (s : State) → StandsFor core.old s → IfOk result (λ reply. CoreLeads core.new (QueueRun s batch (reply ∷ []))) }
+    ensures cut { (s : State) → StandsFor core.old s → OnErr result (CoreLeads core.new (QueueCut s batch)) }
+    ensures told { AreTold core.new.outcomes }
+{
+    match core.admit(batch) {
+        Admit::Queued { ticket } => Ok(Reply::Queued { ticket }),
+        Admit::BadSize { part, length } => Ok(size_reply(part, length)),
+        Admit::Stopped(failure) => Ok(Reply::Stopped(failure)),
+        Admit::Spent(counter) => Ok(Reply::Spent(counter)),
+        Admit::QueueFull { waiting } => Ok(Reply::QueueFull { waiting }),
+        Admit::OutOfMemory => Err(OutOfMemory),
+    }
+}
+
+// The batch that puts a value at a key.
+fn pair_batch(
+    alloc: Global,
+    key: &Bytes,
+    value: &Bytes,
+    sync: bool,
+) -> Result<Batch, OutOfMemory>
+    ensures { IfOk result (λ batch. batch ≡ batch_of_put key.now value.now sync) }
+{
+    let key = Bytes::from_slice(alloc, key.as_slice())?;
+    let value = Bytes::from_slice(alloc, value.as_slice())?;
+    one_op(alloc, Op::Put { key, value }, sync)
+}
+
+// The batch that deletes a key.
+fn key_batch(alloc: Global, key: &Bytes, sync: bool) -> Result<Batch, OutOfMemory>
+    ensures { IfOk result (λ batch. batch ≡ batch_of_del key.now sync) }
+{
+    let key = Bytes::from_slice(alloc, key.as_slice())?;
+    one_op(alloc, Op::Del { key }, sync)
+}
+
 /// Puts a value at a key, and says what became of it.
 pub(crate) fn put_pair<V: Device>(
     alloc: Global,
@@ -91,9 +131,7 @@ pub(crate) fn put_pair<V: Device>(
         CoreLeads core.new (λ new. (new ≡ s) ⊎ PutCut s (batch_of_put key.now value.now sync) new)) }
     ensures told { AreTold core.new.outcomes }
 {
-    let key = Bytes::from_slice(alloc, key.as_slice())?;
-    let value = Bytes::from_slice(alloc, value.as_slice())?;
-    let batch = one_op(alloc, Op::Put { key, value }, sync)?;
+    let batch = pair_batch(alloc, key, value, sync)?;
     put_batch(alloc, core, batch)
 }
 
@@ -111,7 +149,43 @@ pub(crate) fn delete_key<V: Device>(
         CoreLeads core.new (λ new. (new ≡ s) ⊎ PutCut s (batch_of_del key.now sync) new)) }
     ensures told { AreTold core.new.outcomes }
 {
-    let key = Bytes::from_slice(alloc, key.as_slice())?;
-    let batch = one_op(alloc, Op::Del { key }, sync)?;
+    let batch = key_batch(alloc, key, sync)?;
     put_batch(alloc, core, batch)
+}
+
+/// Queues the put of a value at a key.
+pub(crate) fn queue_pair<V: Device>(
+    alloc: Global,
+    core: &mut Core<V>,
+    key: &Bytes,
+    value: &Bytes,
+    sync: bool,
+) -> Result<Reply, OutOfMemory>
+    requires told { AreTold core.old.outcomes }
+    ensures carried { (s : State) → StandsFor core.old s → IfOk result (λ reply.
+        CoreLeads core.new (QueueRun s (batch_of_put key.now value.now sync) (reply ∷ []))) }
+    ensures cut { (s : State) → StandsFor core.old s → OnErr result (
+        CoreLeads core.new (λ new. (new ≡ s) ⊎ QueueCut s (batch_of_put key.now value.now sync) new)) }
+    ensures told { AreTold core.new.outcomes }
+{
+    let batch = pair_batch(alloc, key, value, sync)?;
+    queue_batch(core, batch)
+}
+
+/// Queues the deletion of a key.
+pub(crate) fn queue_delete<V: Device>(
+    alloc: Global,
+    core: &mut Core<V>,
+    key: &Bytes,
+    sync: bool,
+) -> Result<Reply, OutOfMemory>
+    requires told { AreTold core.old.outcomes }
+    ensures carried { (s : State) → StandsFor core.old s → IfOk result (λ reply.
+        CoreLeads core.new (QueueRun s (batch_of_del key.now sync) (reply ∷ []))) }
+    ensures cut { (s : State) → StandsFor core.old s → OnErr result (
+        CoreLeads core.new (λ new. (new ≡ s) ⊎ QueueCut s (batch_of_del key.now sync) new)) }
+    ensures told { AreTold core.new.outcomes }
+{
+    let batch = key_batch(alloc, key, sync)?;
+    queue_batch(core, batch)
 }

@@ -1,0 +1,4 @@
+pub mod Tracked
+pub mod Formulas
+pub mod Places
+pub mod State

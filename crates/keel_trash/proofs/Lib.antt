@@ -1,0 +1,5 @@
+mod Products
+mod Renaming
+mod Queued
+mod Kept
+mod Ticks

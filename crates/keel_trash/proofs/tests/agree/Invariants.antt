@@ -1,0 +1,5 @@
+use Rattle.keel_trash.specs.State.{AreQueued}
+use Rattle.keel_trash.proofs.tests.agree.Given as goal
+
+abbrev pub invariant-loop-now : goal.invariant-loop-now
+invariant-loop-now l = AreQueued l.trash l.space

@@ -1,0 +1,9 @@
+use Rattle.std.proofs.Common.{◌≡◌, ◌*◌, ◌^◌, ◌≤◌, take}
+use Rattle.keel_version.specs.Picking.{on_level, bytes_of}
+use Rattle.keel_version.proofs.picking.bytes_on.Given as goal
+
+abbrev pub invariant-loop-table : goal.invariant-loop-table
+invariant-loop-table l = record {
+  sum : l.bytes ≡ bytes_of (on_level l.level (take l.table-index l.tables));
+  fits : l.bytes ≤ 2 ^ 64 * l.table-index;
+}
