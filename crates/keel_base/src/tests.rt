@@ -1,7 +1,7 @@
 use crate::{
     Bytes, Calls, Failed, FileName, Kind, MemSink, MemSource, Op, Ops, Options, OutOfMemory,
-    PlainSink, PlainSource, Row, Rows, Sink, Source, TakeEnd, give_all, same_name, take_all,
-    weight,
+    PlainSink, PlainSource, Row, Rows, Sink, Source, TakeEnd, give_all, ops_weight, same_name,
+    take_all, weight,
 };
 use std::alloc::Global;
 use std::test::Fail;

@@ -107,7 +107,7 @@ fn run_row(
 }
 
 // Runs to the end of a workload, and the output of each.
-const ANSWERED: [(&[u8], &[u8]); 13] = [
+const ANSWERED: [(&[u8], &[u8]); 15] = [
     (
         b"open\nput a 1 sync\nget a\nopen\n",
         b"opened 0\nok 1\nvalue 1\nis-open\n",
@@ -153,6 +153,15 @@ const ANSWERED: [(&[u8], &[u8]); 13] = [
         b"opened 0\nok 1\nok 2\ncrashed\nopened 2\nok 3\nfile 000001.log 48\nfile 000002.log 24\nfiles 2\n",
     ),
     (b"# a comment\n   \n\n  open  \n", b"opened 0\n"),
+    // Clients that queue, and the group that is written call by call.
+    (
+        b"open\nqueue 1 put a 1\nqueue 2 put b 2 sync\nqueue 3 del a\nwrite\nwrite\nwrite\nwrite\nscan % %\nwrite\n",
+        b"opened 0\nqueued 1\nqueued 2\nqueued 3\nmoved 1 create\nmoved 1 sync-dir\nmoved 1 append\ndone 1 3 3\nrow b 2\nrows 1\nidle\n",
+    ),
+    (
+        b"open\nscan % %\nput a 1\nput b 2\nput c 3\nput b 4\nscan a c\nscan b %\nscan c b\nqueue 1 put a 5\nscan % a\n",
+        b"opened 0\nrows 0\nok 1\nok 2\nok 3\nok 4\nrow a 1\nrow b 4\nrows 2\nrow b 4\nrow c 3\nrows 2\nrows 0\nqueued 5\nrows 0\n",
+    ),
 ];
 
 // Runs that stop at a line: the output, and the text that names it.
@@ -180,6 +189,28 @@ fn workloads_are_answered(rt: HostRuntime) -> Result<(), Fail> {
     for (input, out, err) in REFUSED {
         check(&rt, &run_refused(input, out, err))?;
     }
+    Ok(())
+}
+
+// Appends a line so many times.
+fn repeat(text: &mut Bytes, times: u64, line: &[u8]) -> Result<(), Fail> {
+    for _ in 0..times {
+        text.extend(line).ok().ok_or("memory")?;
+    }
+    Ok(())
+}
+
+/// At most 64 batches wait, and one group takes them all.
+#[test]
+fn a_full_queue_is_answered(rt: HostRuntime) -> Result<(), Fail> {
+    let alloc = rt.alloc();
+    let mut input = Bytes::from_slice(alloc, b"open\n").ok().ok_or("memory")?;
+    repeat(&mut input, 65, b"queue 1 put a 1\n")?;
+    repeat(&mut input, 3, b"write\n")?;
+    repeat(&mut input, 1, b"scan % %\n")?;
+    let ended = run_row(alloc, &run(input.as_slice(), b""))?;
+    let told = b"queued 64\nqueue-full 64\nmoved 1 create\nmoved 1 sync-dir\ndone 1 64 64\nrow a 1\nrows 1\n";
+    assert!(rt; ended.out.held().ends_with(told.as_slice()));
     Ok(())
 }
 

@@ -1,7 +1,7 @@
 use crate::Core;
 use keel_base::{Batch, Bytes, Call, FileName, Op, Ops};
 use keel_disk::Rule;
-use keel_machine::{Admit, Got, Outcome, WriteStep};
+use keel_machine::{Admit, Got, Outcome, Part, Scanned, WriteStep};
 use keel_simdisk::SimDisk;
 use std::alloc::Global;
 use std::test::Fail;
@@ -75,5 +75,39 @@ fn a_put_goes_through_its_calls(rt: HostRuntime) -> Result<(), Fail> {
     assert_eq!(rt; again.last_seq(), 1);
     assert_eq!(rt; again.trail().read().len(), 1);
     assert!(rt; has(alloc, &mut again, b"a", b"1"));
+    Ok(())
+}
+
+/// A batch holds at most a thousand ops, and a scan gives the newest rows between two keys.
+#[test]
+fn batches_are_bounded_and_scanned(rt: HostRuntime) -> Result<(), Fail> {
+    let alloc = rt.alloc();
+    let mut core = open(alloc, SimDisk::new(alloc, CAPACITY))?;
+    let mut wide = Ops::new(alloc);
+    for _ in 0..1001 {
+        let key = Bytes::from_slice(alloc, b"a").ok().ok_or("memory")?;
+        wide.push(Op::Del { key }).ok().ok_or("memory")?;
+    }
+    let refused = core.admit(Batch {
+        ops: wide,
+        sync: false,
+    });
+    let part = Part::Batch;
+    assert!(rt; matches!(refused, Admit::BadSize { part: of, length: 1001 } if of == part));
+    for (key, value) in [(b"b", b"1"), (b"a", b"2"), (b"b", b"3")] {
+        let admitted = core.admit(put(alloc, key, value)?);
+        assert!(rt; matches!(admitted, Admit::Queued { .. }));
+    }
+    for _ in 0..4 {
+        assert!(rt; !matches!(core.write_step(alloc, None), WriteStep::Idle));
+    }
+    let Scanned::Rows(rows) = core.scan(alloc, b"b", b"") else {
+        return Err(Fail::from("the scan is refused"));
+    };
+    assert_eq!(rt; rows.len(), 1);
+    for row in rows.as_slice() {
+        assert_eq!(rt; row.key.as_slice(), b"b".as_slice());
+        assert_eq!(rt; row.value.as_slice(), b"3".as_slice());
+    }
     Ok(())
 }
