@@ -57,6 +57,7 @@ fn list_text(alloc: Global, entries: &[Entry]) -> Result<Bytes, OutOfMemory>
 }
 
 // Adds the line of a row.
+#[tactic(auto, unfolding(crate::specs::Replies::row_line))]
 fn add_row(alloc: Global, lines: &mut Bytes, row: &Row) -> Result<(), OutOfMemory>
     ensures { OnOk result (lines.new ≡ lines.old ++ row_line row.now) }
 {

@@ -114,6 +114,7 @@ fn read_key<V: Device>(alloc: Global, core: Core<V>, key: &Bytes) -> Carried<V>
     }
 }
 
+// Reads the keys of a range.
 fn scan_keys<V: Device>(alloc: Global, core: Core<V>, from: &Bytes, to: &Bytes) -> Carried<V>
     requires { AreTold core.outcomes }
     ensures tidy { IsTidy result.place }
@@ -207,9 +208,7 @@ fn rest_reply(is_open: bool, command: &Command) -> Option<Reply>
         | Command::Write
         | Command::Get { .. }
         | Command::Scan { .. }
-        | Command::Drain { .. } => {
-            if is_open { None } else { Some(Reply::NotOpen) }
-        }
+        | Command::Drain { .. } => { if is_open { None } else { Some(Reply::NotOpen) } }
         Command::Files | Command::Crash { .. } => None,
         _ => Some(Reply::NotBuilt),
     }
@@ -284,7 +283,10 @@ fn carry_open<V: Device>(alloc: Global, core: Core<V>, command: &Command) -> Car
             }
         }
         Command::QueuePut {
-            key, value, sync, ..
+            key,
+            value,
+            sync,
+            ..
         } => {
             let reply = queue_pair(alloc, &mut core, key, value, *sync);
             Carried {

@@ -95,12 +95,7 @@ fn queue_batch<V: Device>(core: &mut Core<V>, batch: Batch) -> Result<Reply, Out
 }
 
 // The batch that puts a value at a key.
-fn pair_batch(
-    alloc: Global,
-    key: &Bytes,
-    value: &Bytes,
-    sync: bool,
-) -> Result<Batch, OutOfMemory>
+fn pair_batch(alloc: Global, key: &Bytes, value: &Bytes, sync: bool) -> Result<Batch, OutOfMemory>
     ensures { IfOk result (λ batch. batch ≡ batch_of_put key.now value.now sync) }
 {
     let key = Bytes::from_slice(alloc, key.as_slice())?;

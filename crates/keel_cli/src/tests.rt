@@ -209,7 +209,8 @@ fn a_full_queue_is_answered(rt: HostRuntime) -> Result<(), Fail> {
     repeat(&mut input, 3, b"write\n")?;
     repeat(&mut input, 1, b"scan % %\n")?;
     let ended = run_row(alloc, &run(input.as_slice(), b""))?;
-    let told = b"queued 64\nqueue-full 64\nmoved 1 create\nmoved 1 sync-dir\ndone 1 64 64\nrow a 1\nrows 1\n";
+    let told =
+        b"queued 64\nqueue-full 64\nmoved 1 create\nmoved 1 sync-dir\ndone 1 64 64\nrow a 1\nrows 1\n";
     assert!(rt; ended.out.held().ends_with(told.as_slice()));
     Ok(())
 }

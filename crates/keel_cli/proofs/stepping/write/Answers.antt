@@ -8,4 +8,4 @@ pub returns-clause-cut : goal.returns-clause-cut
 returns-clause-cut g c = write_cut c.args.core.now c.write_step-step.new.self c.write_step-step.result c.step_reply.result c.write_step-step.ensures.turn c.step_reply.ensures.cut
 
 pub returns-clause-told : goal.returns-clause-told
-returns-clause-told g c = step_told c.args.core.now c.write_step-step.new.self c.write_step-step.result c.write_step-step.ensures.turn c.requires
+returns-clause-told g c = step_told c.args.core.now c.write_step-step.new.self c.write_step-step.result c.write_step-step.ensures.turn c.requires.told
