@@ -269,12 +269,7 @@ impl<D: Disk> Core<D> {
 }
 
 // The records of batches that are numbered from a sequence on, behind so many bytes of a log.
-fn records_of(
-    alloc: Global,
-    size: u64,
-    first: u64,
-    batches: &[Batch],
-) -> Result<Bytes, OutOfMemory>
+fn records_of(alloc: Global, size: u64, first: u64, batches: &[Batch]) -> Result<Bytes, OutOfMemory>
     requires each { EachIsAdmissible batches.now }
     requires numbers { first + count_ops (ops_of batches.now) ≤ 2 ^ 56 + 1 }
     requires some { 1 ≤ first }

@@ -18,7 +18,7 @@ encode-requires c =
     let next = next_item batches i c.batch-item.result c.loop-batch-test.true c.batch-item.is in
     let counts = ap (λ l. count_ops (ops_of l)) next in
     let each = All-same (λ (b : Batch). AreAdmissible b.ops) (c.batch-item.result ∷ drop (i + 1) batches) (drop i batches) (sym next)
-        (All-drop (λ (b : Batch). AreAdmissible b.ops) i batches c.requires.each) in
+    (All-drop (λ (b : Batch). AreAdmissible b.ops) i batches c.requires.each) in
     is_batch c.loop-batch.seq c.batch-item.result.ops (All-head (λ (b : Batch). AreAdmissible b.ops) c.batch-item.result (drop (i + 1) batches) each)
     (omega (arith, c.requires.some, c.loop-batch.invariant.least)) (omega (arith, counts, c.loop-batch.invariant.numbers, c.requires.numbers))
 
