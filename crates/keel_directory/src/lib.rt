@@ -1,0 +1,19 @@
+//! What a directory with a manifest, tables and logs says as a store.
+//!
+//! Definitions, and what follows from them; nothing here runs.
+//!
+//! - `specs/Reading`: the reading of a directory. Without CURRENT it is a new store, or refused. Else CURRENT names a
+//!   manifest (`specs/Manifests`), whose edits give a version; its tables are there and open (`specs/TableFiles`); and
+//!   the logs from the least number on have batches that run on from the version's last number (`specs/Replays`). What
+//!   fails first is the refusal (`specs/Refusals`). Of all rows of all tables and logs the newest of a key counts.
+//! - `specs/Sound`: the files are as the store itself makes them.
+//! - `specs/Standing`: the points that a crash may leave, and what it is that a device stands for them.
+//! - `laws`: a directory has one reading, which needs few of its files; and what a settled device stands for.
+//!
+//! It stands on the formats: `keel_frag`, `keel_batch`, `keel_edit` with `keel_version`, `keel_table`; and on `keel_disk` for
+//! directories and what crashes leave of them.
+#![tactic(auto)]
+
+pub mod laws;
+#[cfg(test)]
+mod tests;
