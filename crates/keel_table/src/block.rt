@@ -14,7 +14,7 @@ use keel_fields::FieldError;
 use std::alloc::Global;
 
 /// The rows in the bytes of a block.
-fn rows_in(
+pub(crate) fn rows_in(
     alloc: Global,
     before: &[u8],
     entry: &IndexEntry,

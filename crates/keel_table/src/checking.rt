@@ -37,7 +37,7 @@ fn compared(body: Bytes, stored: u32) -> Result<Bytes, TableFault>
 
 /// So many bytes of what begins at that place, with their check.
 #[tactic(auto, unfolding(crate::specs::Opening::tested))]
-fn tested(part: Bytes, place: u64, size: u32) -> Result<Bytes, TableFault>
+pub(crate) fn tested(part: Bytes, place: u64, size: u32) -> Result<Bytes, TableFault>
     ensures found { Finds (λ b. b) result (spec.tested place size part) }
     ensures differ { ChecksDiffer result }
 {

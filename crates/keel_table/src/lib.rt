@@ -20,6 +20,7 @@
 //! - The pieces of a builder, one behind the other, are the table of its rows: `IsTableOf` of `specs/Spelling`.
 //! - What opening, a block and a `get` answer is what `opened`, `block_found` and `row_found` of `specs/Opening` say of
 //!   the file's bytes, with the place of the first thing that is wrong. Where a file isn't there, they say so.
+//! - `open_bytes` and `block_in` answer the same of a table whose bytes are in memory.
 //! - A device's fault is handed on only where the device counted it. Want of memory changes nothing.
 //! - `laws`: a table opens, with the entries of its blocks, and each block gives its rows.
 //!
@@ -30,6 +31,7 @@ mod block;
 mod builder;
 mod checking;
 mod fault;
+mod in_memory;
 mod index;
 pub mod laws;
 mod opening;
@@ -39,6 +41,7 @@ mod table;
 
 pub use builder::{Builder, FinishRefused, Pieces};
 pub use fault::TableFault;
+pub use in_memory::{block_in, open_bytes};
 pub use index::{Footer, IndexEntries, IndexEntry};
 pub use opening::open_table;
 pub use table::Table;

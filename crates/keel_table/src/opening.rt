@@ -16,7 +16,7 @@ use keel_fields::FieldError;
 use std::alloc::Global;
 
 /// The bytes of a table without a row: the check of its index, and its footer.
-const LEAST_SIZE: u64 = 52;
+pub(crate) const LEAST_SIZE: u64 = 52;
 
 /// Whether blocks, index and footer are all of a file of that size.
 fn is_whole(footer: &Footer, size: u64) -> bool
@@ -28,7 +28,7 @@ fn is_whole(footer: &Footer, size: u64) -> bool
 }
 
 #[tactic(auto, unfolding(crate::specs::Opening::footer_of_size))]
-fn footer_of_size(body: &[u8], size: u64) -> Result<Footer, TableFault>
+pub(crate) fn footer_of_size(body: &[u8], size: u64) -> Result<Footer, TableFault>
     requires { 52 ≤ size }
     ensures found { Finds (λ f. f) result (spec.footer_of_size size (footer_at body.now)) }
     ensures differ { ChecksDiffer result }
@@ -72,7 +72,11 @@ fn read_footer<D: Disk>(
 }
 
 /// The entries in the bytes of an index.
-fn entries_in(alloc: Global, footer: Footer, index: &[u8]) -> Result<IndexEntries, TableFault>
+pub(crate) fn entries_in(
+    alloc: Global,
+    footer: Footer,
+    index: &[u8],
+) -> Result<IndexEntries, TableFault>
     requires { footer.index + footer.size < 2 ^ 64 }
     ensures found { Finds (λ entries. entries) result (spec.entries_in footer index.now) }
     ensures order { IfOk result (λ entries. in_order footer.index 0 None entries ≡ true) }

@@ -3,7 +3,7 @@ ghost use Rattle.keel_base.specs.Keys.{key_lt};
 ghost use Rattle.keel_table.specs.Building.{key_before};
 ghost use Rattle.keel_table.specs.Spelling.{IsRow};
 
-use crate::{Builder, Pieces, Table, TableFault, laws, open_table};
+use crate::{Builder, Pieces, Table, TableFault, block_in, laws, open_bytes, open_table};
 use keel_base::{Bytes, FileName, Kind, OutOfMemory, Row};
 use keel_disk::Disk;
 use keel_simdisk::SimDisk;
@@ -192,5 +192,24 @@ fn what_is_no_table(rt: HostRuntime) -> Result<(), Fail> {
             _ => assert!(rt; false, "a bad check"),
         }
     }
+    Ok(())
+}
+
+#[test]
+fn a_table_in_memory(rt: HostRuntime) -> Result<(), Fail> {
+    let alloc = rt.alloc();
+    let (footer, entries) = open_bytes(alloc, &TABLE).ok().ok_or("open")?;
+    assert_eq!(rt; (footer.rows, footer.first, footer.last), (1, 1, 1));
+    assert_eq!(rt; entries.len(), 1);
+    for entry in entries.as_slice() {
+        let rows = block_in(alloc, &TABLE, b"", entry).ok().ok_or("block")?;
+        assert_eq!(rt; rows.len(), 1);
+    }
+    assert!(rt;
+        matches!(
+            open_bytes(alloc, &TABLE[..51]),
+            Err(TableFault::BadShape { at: 0 })
+        )
+    );
     Ok(())
 }
