@@ -6,3 +6,4 @@ pub mod KeyOrder
 pub mod Searching
 pub mod Reread
 pub mod Opens
+pub mod Spelled

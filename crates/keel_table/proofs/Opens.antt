@@ -13,14 +13,14 @@ use Rattle.keel_base.specs.declared.row.Kind.TheVariants as kinds
 use Rattle.keel_base.specs.Keys.{key_cmp, key_lt, key_eq}
 use Rattle.keel_table.specs.declared.index.IndexEntry.{IndexEntry}
 use Rattle.keel_table.specs.declared.index.Footer.{Footer}
-use Rattle.keel_table.specs.Spelling.{most_value, row_bytes, rows_bytes, IsRow, Ascend, last_key, IsBlock, AreBlocks, rows_of, checked, block_bytes, blocks_bytes, entry_bytes, entry_of, entries_from, index_bytes, footer_body, footer_bytes, footer_of, table_bytes, FooterFits}
+use Rattle.keel_table.specs.Spelling.{most_value, row_bytes, rows_bytes, IsRow, Ascend, last_key, IsBlock, AreBlocks, rows_of, checked, block_bytes, blocks_bytes, entry_bytes, IsEntry, entry_of, entries_from, index_bytes, footer_body, footer_bytes, footer_of, table_bytes, FooterFits}
 use Rattle.keel_table.specs.Fields.{is_over, next_entry_at, entries_at, all_rows_at, footer_at}
 use Rattle.keel_table.specs.Opening.{checked_at, footer_of_size, footer_found, entries_found, opened_with, opened, block_found, Covering, covering, row_of, row_found, Damage}
 use Rattle.keel_table.specs.Laws.{AreWhole, GetGives, OpensAs, TablesOpen}
 use Rattle.keel_table.proofs.KeyOrder.{eq_same, lt_then_lt, not_lt}
 use Rattle.keel_table.proofs.Lengths.{length-row, length-checked}
 use Rattle.keel_table.proofs.Adding.{last_key-more, flat-one}
-use Rattle.keel_table.proofs.Reread.{checked_again, over_last, all_again, IsEntry, entry_field, footer_again, length-footer}
+use Rattle.keel_table.proofs.Reread.{checked_again, over_last, all_again, entry_field, footer_again, length-footer}
 
 -- ---- rows of several blocks
 

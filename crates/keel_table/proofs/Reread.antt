@@ -15,7 +15,7 @@ use Rattle.keel_fields.specs.Reading.{Read, number_at, bounded_at, bytes_at, lin
 use Rattle.keel_fields.proofs.Fields.{IsBytes, IsBytes-rest, Takes, IsField, Between, wide32, wide64, number_field, bounded_field, bytes_takes, bytes_again, sized_field, both_field, linked_field, made_field, refit_field}
 use Rattle.keel_table.specs.declared.index.IndexEntry.{IndexEntry}
 use Rattle.keel_table.specs.declared.index.Footer.{Footer}
-use Rattle.keel_table.specs.Spelling.{number, count, most_value, kind_byte, row_bytes, rows_bytes, IsRow, Ascend, last_key, IsBlock, checked, entry_bytes, magic, footer_body, FooterFits}
+use Rattle.keel_table.specs.Spelling.{number, count, most_value, kind_byte, row_bytes, rows_bytes, IsRow, Ascend, last_key, IsBlock, checked, entry_bytes, IsEntry, magic, footer_body, FooterFits}
 use Rattle.keel_table.specs.Fields.{kind_at, Header, header_at, make_row, row_at, may_stand, next_row_at, rows_at, all_rows_at, make_entry, entry_at, FooterParts, make_footer, footer_at}
 use Rattle.keel_table.specs.Opening.{compared, tested, part_at, checked_at}
 use Rattle.keel_table.proofs.Lengths.{length-count, length-row, length-checked}
@@ -31,7 +31,7 @@ count_again : (n : ℕ) → n < 2 ^ 32 → from_le_bytes w32 (take 4 (count n)) 
 unfolding count
 count_again n lt = wide32.again n lt
 
-tested_again : (place : ℕ) (body : List ℕ) → tested place (length body) (checked body) ≡ Ok body
+pub tested_again : (place : ℕ) (body : List ℕ) → tested place (length body) (checked body) ≡ Ok body
 unfolding tested compared checked
 tested_again place body =
     let check : List ℕ = count (mask (crc32c body)) in
@@ -177,7 +177,7 @@ unfolding next_row_at
 next_again before last row rest is over stands =
     rw (row_field.again row rest is, over, stands) refl
 
-rows_again : (most : ℕ) (before last : List ℕ) (row : Row) (rows : List Row) → length rows < most → AllByRecursion IsRow (row ∷ rows) → Ascend before (row ∷ rows) → last ≡ last_key before (row ∷ rows)
+pub rows_again : (most : ℕ) (before last : List ℕ) (row : Row) (rows : List Row) → length rows < most → AllByRecursion IsRow (row ∷ rows) → Ascend before (row ∷ rows) → last ≡ last_key before (row ∷ rows)
     → rows_at most before last (rows_bytes (row ∷ rows)) ≡ Ok (row ∷ rows)
 unfolding rows_at
 rows_again zero before last row rows few each rise is = absurd (omega (arith, few))
@@ -192,7 +192,7 @@ rows_again (suc most) before last row (next ∷ rows) few each rise is =
     let left : eqb (length behind) 0 ≡ false = ne_eqb (length behind) 0 (λ e. omega (arith, some, e)) in
     rw (here, left) (rw (rows_again most row.key last next rows (omega (arith, few)) each.1 rise.1 is) refl)
 
-rows_long : (rows : List Row) → length rows ≤ length (rows_bytes rows)
+pub rows_long : (rows : List Row) → length rows ≤ length (rows_bytes rows)
 rows_long [] = omega arith
 rows_long (row ∷ rows) = omega (arith, rows_long rows, length-append (row_bytes row) (rows_bytes rows), length-row row)
 
@@ -217,11 +217,6 @@ unfolding entry_at
 entry_parts =
     made_field make_entry split_entry _ _ _ (λ p _. refl) (λ e. refl) (both_field _ _ _ _ _ _ (both_field _ _ _ _ _ _ number64 number32) (sized_field (number_at w32) count (λ n. n < 2 ^ 32) number32))
 
-pub record IsEntry (e : IndexEntry) : Type 0 where
-  pub place : e.place < 2 ^ 64
-  pub size : e.size < 2 ^ 32
-  pub last : length e.last < 2 ^ 32
-
 -- an entry is read as it is spelled
 pub entry_field : IsField entry_at entry_bytes IsEntry
 entry_field =
@@ -234,16 +229,16 @@ entry_field =
 abbrev split_footer : Footer → FooterParts
 split_footer f = (((((f.index, f.size), f.blocks), f.rows), f.first), f.last)
 
-abbrev footer_text : Footer → List ℕ
+abbrev pub footer_text : Footer → List ℕ
 footer_text f = ((((number f.index ++ count f.size) ++ count f.blocks) ++ number f.rows) ++ number f.first) ++ number f.last
 
-footer_parts : IsField footer_at footer_text (λ f. (((((f.index < 2 ^ 64) × (f.size < 2 ^ 32)) × (f.blocks < 2 ^ 32)) × (f.rows < 2 ^ 64)) × (f.first < 2 ^ 64)) × (f.last < 2 ^ 64))
+pub footer_parts : IsField footer_at footer_text (λ f. (((((f.index < 2 ^ 64) × (f.size < 2 ^ 32)) × (f.blocks < 2 ^ 32)) × (f.rows < 2 ^ 64)) × (f.first < 2 ^ 64)) × (f.last < 2 ^ 64))
 unfolding footer_at
 footer_parts =
     made_field make_footer split_footer _ _ _ (λ p _. refl) (λ f. refl)
     (both_field _ _ _ _ _ _ (both_field _ _ _ _ _ _ (both_field _ _ _ _ _ _ (both_field _ _ _ _ _ _ (both_field _ _ _ _ _ _ number64 number32) number32) number64) number64) number64)
 
-seven : (i s b r f l m : List ℕ) → i ++ (s ++ (b ++ (r ++ (f ++ (l ++ m))))) ≡ (((((i ++ s) ++ b) ++ r) ++ f) ++ l) ++ m
+pub seven : (i s b r f l m : List ℕ) → i ++ (s ++ (b ++ (r ++ (f ++ (l ++ m))))) ≡ (((((i ++ s) ++ b) ++ r) ++ f) ++ l) ++ m
 seven i s b r f l m = sym (simp append_assoc)
 
 pub footer_again : (f : Footer) → FooterFits f → footer_at (footer_body f) ≡ Ok (f, magic)

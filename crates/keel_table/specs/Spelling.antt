@@ -97,6 +97,12 @@ blocks_bytes blocks = flat_map block_bytes blocks
 abbrev pub entry_bytes : IndexEntry → List ℕ
 entry_bytes e = number e.place ++ (count e.size ++ (count (length e.last) ++ e.last))
 
+-- the numbers of an entry fit their fields
+pub record IsEntry (e : IndexEntry) : Type 0 where
+  pub place : e.place < 2 ^ 64
+  pub size : e.size < 2 ^ 32
+  pub last : length e.last < 2 ^ 32
+
 -- the entry of a block
 abbrev pub entry_of : ℕ → List Row → IndexEntry
 entry_of place block = record { place = place; size = length (rows_bytes block); last = last_key [] block }

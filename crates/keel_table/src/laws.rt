@@ -1,7 +1,22 @@
 //! Laws of the format, each as the contract of a function.
-ghost use Rattle.keel_table.specs.Laws.{TablesOpen};
+ghost use Rattle.keel_table.specs.Laws.{TablesOpen, BlocksAreSpelled, IndexesAreSpelled, FootersAreSpelled};
 
 /// The file of a table opens as the table of its rows: each block gives its rows, and a get the row of its key.
 pub fn tables_open()
     ensures { TablesOpen }
+{}
+
+/// What a block gives is what its bytes spell: rows with their check, whose keys rise up to the key of its entry.
+pub fn blocks_are_spelled()
+    ensures { BlocksAreSpelled }
+{}
+
+/// What an index gives is what its bytes spell: entries with their check, of blocks that follow each other up to it.
+pub fn indexes_are_spelled()
+    ensures { IndexesAreSpelled }
+{}
+
+/// What opening takes as the footer is what the last bytes spell, and with blocks and index it is the whole file.
+pub fn footers_are_spelled()
+    ensures { FootersAreSpelled }
 {}

@@ -22,7 +22,8 @@
 //!   the file's bytes, with the place of the first thing that is wrong. Where a file isn't there, they say so.
 //! - `open_bytes` and `block_in` answer the same of a table whose bytes are in memory.
 //! - A device's fault is handed on only where the device counted it. Want of memory changes nothing.
-//! - `laws`: a table opens, with the entries of its blocks, and each block gives its rows.
+//! - `laws`: a table opens, with the entries of its blocks, and each block gives its rows; and what reads well as a
+//!   block, an index or a footer is what spells it.
 //!
 //! It stands on `keel_fields` for reading, on the checks of `keel_frag`, and on any device of `keel_disk`.
 #![tactic(auto)]

@@ -169,6 +169,9 @@ fn a_table_of_several_blocks(rt: HostRuntime) -> Result<(), Fail> {
 fn what_is_no_table(rt: HostRuntime) -> Result<(), Fail> {
     let alloc = rt.alloc();
     laws::tables_open();
+    laws::blocks_are_spelled();
+    laws::indexes_are_spelled();
+    laws::footers_are_spelled();
     let mut disk = file_of(alloc, &TABLE)?;
     for (number, size, fault) in [
         (7, 51, TableFault::BadShape { at: 0 }),
