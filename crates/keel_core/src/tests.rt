@@ -1,5 +1,5 @@
 use crate::Core;
-use keel_base::{Batch, Bytes, Call, FileName, Op, Ops};
+use keel_base::{Batch, Bytes, Call, FileName, Op, Ops, Rows};
 use keel_disk::Rule;
 use keel_machine::{Admit, Got, Outcome, Part, Scanned, WriteStep};
 use keel_simdisk::SimDisk;
@@ -78,25 +78,49 @@ fn a_put_goes_through_its_calls(rt: HostRuntime) -> Result<(), Fail> {
     Ok(())
 }
 
-/// A batch holds at most a thousand ops, and a scan gives the newest rows between two keys.
+// So many deletes of one key.
+fn deletes(alloc: Global, count: usize) -> Result<Ops, Fail> {
+    let mut ops = Ops::new(alloc);
+    for _ in 0..count {
+        let key = Bytes::from_slice(alloc, b"a").ok().ok_or("memory")?;
+        ops.push(Op::Del { key }).ok().ok_or("memory")?;
+    }
+    Ok(ops)
+}
+
+// Whether a batch is queued.
+fn queues(core: &mut Core<SimDisk>, batch: Batch) -> bool {
+    matches!(core.admit(batch), Admit::Queued { .. })
+}
+
+// Whether there is one row alone, of this key and value.
+fn is_one(rows: &Rows, key: &[u8], value: &[u8]) -> bool {
+    match rows.as_slice() {
+        [row] => row.key.as_slice() == key && row.value.as_slice() == value,
+        _ => false,
+    }
+}
+
+/// A batch holds at most a thousand ops.
 #[test]
-fn batches_are_bounded_and_scanned(rt: HostRuntime) -> Result<(), Fail> {
+fn a_wide_batch_is_refused(rt: HostRuntime) -> Result<(), Fail> {
     let alloc = rt.alloc();
     let mut core = open(alloc, SimDisk::new(alloc, CAPACITY))?;
-    let mut wide = Ops::new(alloc);
-    for _ in 0..1001 {
-        let key = Bytes::from_slice(alloc, b"a").ok().ok_or("memory")?;
-        wide.push(Op::Del { key }).ok().ok_or("memory")?;
-    }
-    let refused = core.admit(Batch {
-        ops: wide,
-        sync: false,
-    });
+    let ops = deletes(alloc, 1001)?;
+    let refused = core.admit(Batch { ops, sync: false });
     let part = Part::Batch;
     assert!(rt; matches!(refused, Admit::BadSize { part: of, length: 1001 } if of == part));
+    Ok(())
+}
+
+/// A scan gives the newest rows between two keys, of batches that one group wrote.
+#[test]
+fn a_group_is_scanned(rt: HostRuntime) -> Result<(), Fail> {
+    let alloc = rt.alloc();
+    let mut core = open(alloc, SimDisk::new(alloc, CAPACITY))?;
     for (key, value) in [(b"b", b"1"), (b"a", b"2"), (b"b", b"3")] {
-        let admitted = core.admit(put(alloc, key, value)?);
-        assert!(rt; matches!(admitted, Admit::Queued { .. }));
+        let batch = put(alloc, key, value)?;
+        assert!(rt; queues(&mut core, batch));
     }
     for _ in 0..4 {
         assert!(rt; !matches!(core.write_step(alloc, None), WriteStep::Idle));
@@ -104,10 +128,6 @@ fn batches_are_bounded_and_scanned(rt: HostRuntime) -> Result<(), Fail> {
     let Scanned::Rows(rows) = core.scan(alloc, b"b", b"") else {
         return Err(Fail::from("the scan is refused"));
     };
-    assert_eq!(rt; rows.len(), 1);
-    for row in rows.as_slice() {
-        assert_eq!(rt; row.key.as_slice(), b"b".as_slice());
-        assert_eq!(rt; row.value.as_slice(), b"3".as_slice());
-    }
+    assert!(rt; is_one(&rows, b"b", b"3"));
     Ok(())
 }
