@@ -9,7 +9,7 @@ ghost use Rattle.keel_cli.specs.declared.answer.Answer.TheVariants as answers;
 ghost use Rattle.keel_cli.specs.Cuts.{CarriedOut};
 ghost use Rattle.keel_cli.specs.Places.{AreTold, IsShut, IsTidy, Stands, device_of, shown_by};
 ghost use Rattle.keel_cli.specs.Replies.{replies_of};
-ghost use Rattle.keel_cli.specs.Runs.{listing_replies, opening_replies, rest_reply};
+ghost use Rattle.keel_cli.specs.Runs.{listing_replies, opening_replies, rest_reply, writes};
 ghost use Rattle.keel_disk.specs.declared.error.DiskError.TheVariants as disk;
 
 use crate::Answer;
@@ -253,19 +253,14 @@ fn carry_closed<V: Device>(alloc: Global, device: V, command: &Command) -> Carri
     }
 }
 
-// A command on the open store.
-fn carry_open<V: Device>(alloc: Global, core: Core<V>, command: &Command) -> Carried<V>
-    requires { AreTold core.outcomes }
+// A command that writes to the open store.
+fn carry_write<V: Device>(alloc: Global, core: Core<V>, command: &Command) -> Carried<V>
+    requires told { AreTold core.outcomes }
+    requires write { writes command.now ≡ true }
     ensures tidy { IsTidy result.place }
-    ensures out { (s : State) → StandsFor core s → IsCovered s
+    ensures out { (s : State) → StandsFor core s
         → CarriedOut (shown_by V.told V.changes V.faults V.last_fault V.is_simulated) s command.now result.place result.answer }
 {
-    if let Some(reply) = rest_reply(true, command) {
-        return Carried {
-            place: Place::Open(core),
-            answer: Ok(Answer::One(reply)),
-        };
-    }
     let mut core = core;
     match command {
         Command::Put { key, value, sync } => {
@@ -315,6 +310,40 @@ fn carry_open<V: Device>(alloc: Global, core: Core<V>, command: &Command) -> Car
                 answer: one(reply),
             }
         }
+        _ => unreachable!(),
+    }
+}
+
+// Crashes the device of the open store, where it is a simulated one.
+fn crash_store<V: Device>(alloc: Global, core: Core<V>, pick: Pick) -> Carried<V>
+    requires { AreTold core.outcomes }
+    ensures tidy { IsTidy result.place }
+    ensures out { (s : State) → StandsFor core s → IsCovered s
+        → CarriedOut (shown_by V.told V.changes V.faults V.last_fault V.is_simulated) s (command.Crash pick.dirops pick.keep pick.garbage pick.seed) result.place result.answer }
+{
+    if !core.simulated() {
+        return Carried {
+            place: Place::Open(core),
+            answer: Ok(Answer::One(Reply::NotSimulated)),
+        };
+    }
+    crash_device(alloc, core.finish(), pick)
+}
+
+// A command on the open store.
+fn carry_open<V: Device>(alloc: Global, core: Core<V>, command: &Command) -> Carried<V>
+    requires { AreTold core.outcomes }
+    ensures tidy { IsTidy result.place }
+    ensures out { (s : State) → StandsFor core s → IsCovered s
+        → CarriedOut (shown_by V.told V.changes V.faults V.last_fault V.is_simulated) s command.now result.place result.answer }
+{
+    if let Some(reply) = rest_reply(true, command) {
+        return Carried {
+            place: Place::Open(core),
+            answer: Ok(Answer::One(reply)),
+        };
+    }
+    match command {
         Command::Get { key } => read_key(alloc, core, key),
         Command::Scan { from, to } => scan_keys(alloc, core, from, to),
         Command::Files => list_open(alloc, core),
@@ -324,21 +353,15 @@ fn carry_open<V: Device>(alloc: Global, core: Core<V>, command: &Command) -> Car
             garbage,
             seed,
         } => {
-            if !core.simulated() {
-                return Carried {
-                    place: Place::Open(core),
-                    answer: Ok(Answer::One(Reply::NotSimulated)),
-                };
-            }
             let pick = Pick {
                 dirops: *dirops,
                 keep: *keep,
                 garbage: *garbage,
                 seed: *seed,
             };
-            crash_device(alloc, core.finish(), pick)
+            crash_store(alloc, core, pick)
         }
-        _ => unreachable!(),
+        _ => carry_write(alloc, core, command),
     }
 }
 
