@@ -1,12 +1,11 @@
 -- The calls of a put, from one core to the next.
-use Rattle.std.proofs.Common.{◌≡◌, ◌≢◌, ℕ, ◌==◌, not, Bool, true, false, List, [], ◌∷◌, Option, Some, None, option_map, length, refl, sym, ap, ◌∙◌, subst, inl, inr}
+use Rattle.std.proofs.Common.{◌≡◌, ◌≢◌, ℕ, ◌==◌, not, Bool, true, false, List, [], ◌∷◌, Option, Some, None, option_map, length, refl, sym, subst, inl, inr}
 use Rattle.keel_base.specs.declared.failure.Counter.{Counter}
 use Rattle.keel_base.specs.declared.failure.Counter.TheVariants.{JobNumber, FileNumber}
 use Rattle.keel_base.specs.declared.failure.Failure.{Failure}
 use Rattle.keel_base.specs.declared.op.Batch.{Batch}
 use Rattle.keel_machine.specs.declared.answers.Admit.{Admit}
 use Rattle.keel_machine.specs.declared.answers.Admit.TheVariants as admit
-use Rattle.keel_machine.specs.declared.answers.Part.{Part}
 use Rattle.keel_machine.specs.declared.answers.Part.TheVariants as part
 use Rattle.keel_machine.specs.declared.answers.Outcome.{Outcome}
 use Rattle.keel_machine.specs.declared.answers.Outcome.TheVariants as outcome
@@ -188,9 +187,9 @@ pub never_cancelled : (core new : CoreView) (job current : ℕ) → Turns core (
 never_cancelled core new job current turns =
     no_rest (state_at core) (state_at core).jobs.write.running job current (turns.goes (state_at core) (stands_at core)).0.first
 
--- of a batch of one op, the part that isn't within its limits is its key or its value
-pub size_named : (core new : CoreView) (batch : Batch) (part_ : Part) (size : ℕ) → Turns core (Admitting batch (admit.BadSize part_ size)) new → length batch.ops ≡ 1
-    → part_ ≢ part.Batch
-size_named core new batch part_ size turns one is =
-    let answered = (turns.goes (state_at core) (stands_at core)).0.0 in
-    one_op_fits (state_at core) batch size one (answered ∙ ap (λ (p : Part). Some (admit.BadSize p size)) is)
+-- of a batch of one op, no count or weight is refused
+pub never_wide : (core new : CoreView) (batch : Batch) (answer : Admit) → Turns core (Admitting batch answer) new → length batch.ops ≡ 1
+    → (size : ℕ) → answer ≢ admit.BadSize part.Batch size
+never_wide core new batch answer turns one size is =
+    let wide = subst (λ (a : Admit). Turns core (Admitting batch a) new) is turns in
+    one_op_fits (state_at core) batch size one (wide.goes (state_at core) (stands_at core)).0.0

@@ -14,6 +14,8 @@ use Rattle.keel_machine.specs.States.{State}
 use Rattle.keel_machine.specs.Turns.{Turn, Admitting, Writing, TakingOutcome}
 use Rattle.keel_script.specs.declared.reply.Reply.{Reply}
 use Rattle.keel_script.specs.declared.reply.Reply.TheVariants as reply
+use Rattle.keel_cli.specs.declared.putting.Admitted.{Admitted}
+use Rattle.keel_cli.specs.declared.putting.Admitted.TheVariants as admitted
 
 -- the batch of one put
 abbrev pub put_batch : List ℕ → List ℕ → Bool → Batch
@@ -34,6 +36,11 @@ refusal_replies (admit.Stopped failure) = Some (reply.Stopped failure ∷ [])
 refusal_replies (admit.Spent counter) = Some (reply.Spent counter ∷ [])
 refusal_replies (admit.QueueFull waiting) = Some (reply.QueueFull waiting ∷ [])
 refusal_replies admit.OutOfMemory = None
+
+-- the ticket of a queued batch, or the reply that prints its refusal
+abbrev pub Tells : Admit → Admitted → Type 0
+Tells answer (admitted.Queued ticket) = answer ≡ admit.Queued ticket
+Tells answer (admitted.Refused reply) = refusal_replies answer ≡ Some (reply ∷ [])
 
 -- the reply that prints an outcome
 abbrev pub outcome_replies : Outcome → Option (List Reply)

@@ -1,11 +1,11 @@
 // A write of one op: it is admitted, and write steps are made until it has an outcome.
-ghost use Rattle.std.specs.Prelude.{◌≡◌, ◌≢◌, ◌⊎◌, [], ◌∷◌, IfOk, OnErr, Some, length};
+ghost use Rattle.std.specs.Prelude.{◌≡◌, ◌≢◌, ◌⊎◌, ℕ, [], ◌∷◌, IfOk, IsErr, OnErr, Some, length};
 ghost use Rattle.keel_machine.specs.States.{State};
-ghost use Rattle.keel_machine.specs.declared.answers.Admit.TheVariants.{BadSize};
+ghost use Rattle.keel_machine.specs.declared.answers.Admit.TheVariants as admit;
 ghost use Rattle.keel_machine.specs.declared.answers.Part.TheVariants as parts;
 ghost use Rattle.keel_core.specs.Views.{StandsFor};
 ghost use Rattle.keel_cli.specs.Places.{AreTold, CoreLeads};
-ghost use Rattle.keel_cli.specs.Puts.{put_batch as batch_of_put, del_batch as batch_of_del, refusal_replies, PutRun, PutCut, QueueRun, QueueCut};
+ghost use Rattle.keel_cli.specs.Puts.{put_batch as batch_of_put, del_batch as batch_of_del, refusal_replies, Tells, PutRun, PutCut, QueueRun, QueueCut};
 
 use keel_base::{Batch, Bytes, Op, Ops, OutOfMemory};
 use keel_core::Core;
@@ -26,12 +26,35 @@ fn one_op(alloc: Global, op: Op, sync: bool) -> Result<Batch, OutOfMemory>
 // What a length outside its limits is answered. Of one op, it is that of the key or the value.
 fn size_reply(part: Part, length: u64) -> Reply
     requires { part ≢ parts.Batch }
-    ensures { refusal_replies (BadSize part length) ≡ Some (result ∷ []) }
+    ensures { refusal_replies (admit.BadSize part length) ≡ Some (result ∷ []) }
 {
     match part {
         Part::Key => Reply::BadSizeKey { length },
         Part::Value => Reply::BadSizeValue { length },
         Part::Batch => unreachable!(),
+    }
+}
+
+// What an admission came to, where memory did not end at it.
+#[derive(Drop)]
+enum Admitted {
+    Queued(u64),
+    Refused(Reply),
+}
+
+// The ticket of an admission, or the reply to its refusal. No count or weight of one op is refused.
+fn ticket_or_reply(answer: Admit) -> Result<Admitted, OutOfMemory>
+    requires { (length : ℕ) → answer ≢ admit.BadSize parts.Batch length }
+    ensures tells { IfOk result (Tells answer) }
+    ensures cut { IsErr result → answer ≡ admit.OutOfMemory }
+{
+    match answer {
+        Admit::Queued { ticket } => Ok(Admitted::Queued(ticket)),
+        Admit::BadSize { part, length } => Ok(Admitted::Refused(size_reply(part, length))),
+        Admit::Stopped(failure) => Ok(Admitted::Refused(Reply::Stopped(failure))),
+        Admit::Spent(counter) => Ok(Admitted::Refused(Reply::Spent(counter))),
+        Admit::QueueFull { waiting } => Ok(Admitted::Refused(Reply::QueueFull { waiting })),
+        Admit::OutOfMemory => Err(OutOfMemory),
     }
 }
 
@@ -47,13 +70,9 @@ fn put_batch<V: Device>(
     ensures cut { (s : State) → StandsFor core.old s → OnErr result (CoreLeads core.new (PutCut s batch)) }
     ensures told { AreTold core.new.outcomes }
 {
-    let ticket = match core.admit(batch) {
-        Admit::Queued { ticket } => ticket,
-        Admit::BadSize { part, length } => return Ok(size_reply(part, length)),
-        Admit::Stopped(failure) => return Ok(Reply::Stopped(failure)),
-        Admit::Spent(counter) => return Ok(Reply::Spent(counter)),
-        Admit::QueueFull { waiting } => return Ok(Reply::QueueFull { waiting }),
-        Admit::OutOfMemory => return Err(OutOfMemory),
+    let ticket = match ticket_or_reply(core.admit(batch))? {
+        Admitted::Queued(ticket) => ticket,
+        Admitted::Refused(reply) => return Ok(reply),
     };
     'writing: loop {
         match core.take_outcome(ticket) {
@@ -84,13 +103,9 @@ fn queue_batch<V: Device>(core: &mut Core<V>, batch: Batch) -> Result<Reply, Out
     ensures cut { (s : State) → StandsFor core.old s → OnErr result (CoreLeads core.new (QueueCut s batch)) }
     ensures told { AreTold core.new.outcomes }
 {
-    match core.admit(batch) {
-        Admit::Queued { ticket } => Ok(Reply::Queued { ticket }),
-        Admit::BadSize { part, length } => Ok(size_reply(part, length)),
-        Admit::Stopped(failure) => Ok(Reply::Stopped(failure)),
-        Admit::Spent(counter) => Ok(Reply::Spent(counter)),
-        Admit::QueueFull { waiting } => Ok(Reply::QueueFull { waiting }),
-        Admit::OutOfMemory => Err(OutOfMemory),
+    match ticket_or_reply(core.admit(batch))? {
+        Admitted::Queued(ticket) => Ok(Reply::Queued { ticket }),
+        Admitted::Refused(reply) => Ok(reply),
     }
 }
 

@@ -1,52 +1,36 @@
 use Rattle.std.proofs.Common.{refl, ◌∷◌}
-use Rattle.keel_machine.specs.declared.answers.Admit.TheVariants as admit
 use Rattle.keel_machine.specs.declared.answers.Outcome.TheVariants as outcome
 use Rattle.keel_machine.specs.declared.steps.WriteStep.TheVariants as step
-use Rattle.keel_cli.proofs.PutTurns.{refused_run, refused_cut, refused_told, queued_gone, queued_known, settled_run, taken_told, never_unknown, step_gone, step_known, spent_run, want_cut, never_cancelled, size_named}
+use Rattle.keel_cli.proofs.OnErr.{on_err_always}
+use Rattle.keel_cli.proofs.PutTurns.{refused_run, refused_cut, refused_told, queued_gone, queued_known, settled_run, taken_told, never_unknown, step_gone, step_known, spent_run, want_cut, never_cancelled, never_wide}
 use Rattle.keel_cli.proofs.putting.put_batch.Goals as goal
 
-pub returns-in-Stopped-clause-carried : goal.returns-in-Stopped-clause-carried
-returns-in-Stopped-clause-carried g c = refused_run c.args.core.now c.admit.new.self c.args.batch (admit.Stopped c.in-Stopped.failure) _ c.in-Stopped.ensures.turn refl
+pub ticket_or_reply-requires : goal.ticket_or_reply-requires
+ticket_or_reply-requires g c = never_wide c.args.core.now c.admit.new.self c.args.batch c.admit.result c.admit.ensures.turn c.requires.one
 
-pub returns-in-Stopped-clause-told : goal.returns-in-Stopped-clause-told
-returns-in-Stopped-clause-told g c = refused_told c.args.core.now c.admit.new.self c.args.batch (admit.Stopped c.in-Stopped.failure) c.in-Stopped.ensures.turn c.requires.told
+pub returns-in_err-ticket-clause-cut : goal.returns-in_err-ticket-clause-cut
+returns-in_err-ticket-clause-cut g c s stands =
+    let want = rw (c.in_err-ticket.ensures.cut refl) at c.admit.ensures.turn in
+    on_err_always c.from_residual.result (refused_cut c.args.core.now c.admit.new.self c.args.batch want s stands)
 
-pub returns-in-Spent-clause-carried : goal.returns-in-Spent-clause-carried
-returns-in-Spent-clause-carried g c = refused_run c.args.core.now c.admit.new.self c.args.batch (admit.Spent c.in-Spent.counter) _ c.in-Spent.ensures.turn refl
+pub returns-in_err-ticket-clause-told : goal.returns-in_err-ticket-clause-told
+returns-in_err-ticket-clause-told g c = refused_told c.args.core.now c.admit.new.self c.args.batch c.admit.result c.admit.ensures.turn c.requires.told
 
-pub returns-in-Spent-clause-told : goal.returns-in-Spent-clause-told
-returns-in-Spent-clause-told g c = refused_told c.args.core.now c.admit.new.self c.args.batch (admit.Spent c.in-Spent.counter) c.in-Spent.ensures.turn c.requires.told
+pub returns-in-Refused-clause-carried : goal.returns-in-Refused-clause-carried
+returns-in-Refused-clause-carried g c =
+    let prints = rw c.in-Refused.is at c.in_ok-ticket.ensures.tells in
+    refused_run c.args.core.now c.admit.new.self c.args.batch c.admit.result _ c.admit.ensures.turn prints
 
-pub returns-in-QueueFull-clause-carried : goal.returns-in-QueueFull-clause-carried
-returns-in-QueueFull-clause-carried g c =
-    refused_run c.args.core.now c.admit.new.self c.args.batch (admit.QueueFull c.in-QueueFull.waiting) _ c.in-QueueFull.ensures.turn refl
-
-pub returns-in-QueueFull-clause-told : goal.returns-in-QueueFull-clause-told
-returns-in-QueueFull-clause-told g c =
-    refused_told c.args.core.now c.admit.new.self c.args.batch (admit.QueueFull c.in-QueueFull.waiting) c.in-QueueFull.ensures.turn c.requires.told
-
-pub returns-in-OutOfMemory-clause-cut : goal.returns-in-OutOfMemory-clause-cut
-returns-in-OutOfMemory-clause-cut g c = refused_cut c.args.core.now c.admit.new.self c.args.batch c.in-OutOfMemory.ensures.turn
-
-pub returns-in-OutOfMemory-clause-told : goal.returns-in-OutOfMemory-clause-told
-returns-in-OutOfMemory-clause-told g c = refused_told c.args.core.now c.admit.new.self c.args.batch admit.OutOfMemory c.in-OutOfMemory.ensures.turn c.requires.told
-
-pub size_reply-requires : goal.size_reply-requires
-size_reply-requires g c = size_named c.args.core.now c.admit.new.self c.args.batch c.in-BadSize.part c.in-BadSize.length c.in-BadSize.ensures.turn c.requires.one
-
-pub returns-in-BadSize-clause-carried : goal.returns-in-BadSize-clause-carried
-returns-in-BadSize-clause-carried g c =
-    refused_run c.args.core.now c.admit.new.self c.args.batch (admit.BadSize c.in-BadSize.part c.in-BadSize.length) _ c.in-BadSize.ensures.turn c.size_reply.ensures
-
-pub returns-in-BadSize-clause-told : goal.returns-in-BadSize-clause-told
-returns-in-BadSize-clause-told g c =
-    refused_told c.args.core.now c.admit.new.self c.args.batch (admit.BadSize c.in-BadSize.part c.in-BadSize.length) c.in-BadSize.ensures.turn c.requires.told
+pub returns-in-Refused-clause-told : goal.returns-in-Refused-clause-told
+returns-in-Refused-clause-told g c = refused_told c.args.core.now c.admit.new.self c.args.batch c.admit.result c.admit.ensures.turn c.requires.told
 
 pub writing-init : goal.writing-init
 writing-init g c =
-    let known = queued_known c.args.core.now c.admit.new.self c.args.batch c.in-Queued.ticket c.in-Queued.ensures.turn c.requires.told in
+    let is = rw c.in-Queued.is at c.in_ok-ticket.ensures.tells in
+    let turn = rw is at c.admit.ensures.turn in
+    let known = queued_known c.args.core.now c.admit.new.self c.args.batch c.in-Queued.ticket turn c.requires.told in
     record {
-      goes = queued_gone c.args.core.now c.admit.new.self c.args.batch c.in-Queued.ticket c.in-Queued.ensures.turn;
+      goes = queued_gone c.args.core.now c.admit.new.self c.args.batch c.in-Queued.ticket turn;
       told = known.0;
       known = known.1;
     }
@@ -82,27 +66,27 @@ pub unreachable-requires : goal.unreachable-requires
 unreachable-requires g c =
     never_unknown c.writing.core c.take_outcome.new.self c.in-Queued.ticket c.in-Unknown.ensures.turn c.writing.invariant.told c.writing.invariant.known
 
-pub returns-in-OutOfMemory-write_step-clause-cut : goal.returns-in-OutOfMemory-write_step-clause-cut
-returns-in-OutOfMemory-write_step-clause-cut g c =
+pub returns-in-OutOfMemory-clause-cut : goal.returns-in-OutOfMemory-clause-cut
+returns-in-OutOfMemory-clause-cut g c =
     want_cut c.args.core.now c.write_step.new.self c.args.batch c.in-Queued.ticket
     (step_gone c.args.core.now c.writing.core c.take_outcome.new.self c.write_step.new.self c.args.batch c.in-Queued.ticket step.OutOfMemory
-    c.writing.invariant.goes c.in-Waiting.ensures.turn c.in-OutOfMemory-write_step.ensures.turn)
+    c.writing.invariant.goes c.in-Waiting.ensures.turn c.in-OutOfMemory.ensures.turn)
 
-pub returns-in-OutOfMemory-write_step-clause-told : goal.returns-in-OutOfMemory-write_step-clause-told
-returns-in-OutOfMemory-write_step-clause-told g c =
+pub returns-in-OutOfMemory-clause-told : goal.returns-in-OutOfMemory-clause-told
+returns-in-OutOfMemory-clause-told g c =
     (step_known c.writing.core c.take_outcome.new.self c.write_step.new.self c.in-Queued.ticket step.OutOfMemory
-    c.writing.invariant.told c.in-Waiting.ensures.turn c.in-OutOfMemory-write_step.ensures.turn).0
+    c.writing.invariant.told c.in-Waiting.ensures.turn c.in-OutOfMemory.ensures.turn).0
 
-pub returns-in-Spent-write_step-clause-carried : goal.returns-in-Spent-write_step-clause-carried
-returns-in-Spent-write_step-clause-carried g c =
-    spent_run c.args.core.now c.write_step.new.self c.args.batch c.in-Queued.ticket c.in-Spent-write_step.field-0
-    (step_gone c.args.core.now c.writing.core c.take_outcome.new.self c.write_step.new.self c.args.batch c.in-Queued.ticket (step.Spent c.in-Spent-write_step.field-0)
-    c.writing.invariant.goes c.in-Waiting.ensures.turn c.in-Spent-write_step.ensures.turn)
+pub returns-in-Spent-clause-carried : goal.returns-in-Spent-clause-carried
+returns-in-Spent-clause-carried g c =
+    spent_run c.args.core.now c.write_step.new.self c.args.batch c.in-Queued.ticket c.in-Spent.field-0
+    (step_gone c.args.core.now c.writing.core c.take_outcome.new.self c.write_step.new.self c.args.batch c.in-Queued.ticket (step.Spent c.in-Spent.field-0)
+    c.writing.invariant.goes c.in-Waiting.ensures.turn c.in-Spent.ensures.turn)
 
-pub returns-in-Spent-write_step-clause-told : goal.returns-in-Spent-write_step-clause-told
-returns-in-Spent-write_step-clause-told g c =
-    (step_known c.writing.core c.take_outcome.new.self c.write_step.new.self c.in-Queued.ticket (step.Spent c.in-Spent-write_step.field-0)
-    c.writing.invariant.told c.in-Waiting.ensures.turn c.in-Spent-write_step.ensures.turn).0
+pub returns-in-Spent-clause-told : goal.returns-in-Spent-clause-told
+returns-in-Spent-clause-told g c =
+    (step_known c.writing.core c.take_outcome.new.self c.write_step.new.self c.in-Queued.ticket (step.Spent c.in-Spent.field-0)
+    c.writing.invariant.told c.in-Waiting.ensures.turn c.in-Spent.ensures.turn).0
 
 pub unreachable-requires-in-Cancelled : goal.unreachable-requires-in-Cancelled
 unreachable-requires-in-Cancelled g c =
