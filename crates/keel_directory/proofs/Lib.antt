@@ -1,3 +1,10 @@
 pub mod OneReading
 pub mod Needed
 pub mod Settled
+pub mod Naming
+pub mod Placing
+pub mod Mapping
+pub mod Sliced
+pub mod Replaying
+pub mod Opening
+pub mod Holding

@@ -11,7 +11,8 @@ use Rattle.keel_version.specs.Tables.{Contents}
 use Rattle.keel_directory.specs.Refusals.{Refusal}
 use Rattle.keel_directory.specs.Manifests.{ManifestIs}
 use Rattle.keel_directory.specs.TableFiles.{TableFile, AllOpen, TablesGive, TablesAre, refusal_of, least, bytes_of, damage_in, damage_of}
-use Rattle.keel_directory.specs.Replays.{LogFile, AreRead, Replay, logs_from}
+use Rattle.keel_directory.specs.declared.logs.LogFile.{LogFile}
+use Rattle.keel_directory.specs.Replays.{AreRead, Replay, logs_from}
 use Rattle.keel_directory.specs.Reading.{Found, LogsOf, TablesOf, VersionOf, ManifestOf, FoundBy, new, held, PointOf, WithCurrent, IsReading, first_used, without_current}
 use Rattle.keel_directory.specs.Laws.{SameNeeded}
 

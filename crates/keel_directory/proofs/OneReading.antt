@@ -16,7 +16,8 @@ use Rattle.keel_reading.proofs.OneReading.{records_once}
 use Rattle.keel_directory.specs.Refusals.{Refusal}
 use Rattle.keel_directory.specs.Manifests.{Names, CurrentIs, ManifestIs, version_of}
 use Rattle.keel_directory.specs.TableFiles.{TableFile, open_sized, Opens, AllOpen, TablesGive, refusal_of}
-use Rattle.keel_directory.specs.Replays.{LogFile, ReadLog, AreRead, Replay, LogsAre, logs_from, replay}
+use Rattle.keel_directory.specs.declared.logs.LogFile.{LogFile}
+use Rattle.keel_directory.specs.Replays.{ReadLog, AreRead, Replay, LogsAre, logs_from, replay}
 use Rattle.keel_directory.specs.Reading.{Found, LogsOf, TablesOf, VersionOf, ManifestOf, FoundBy, Reading, new, held, refused, PointOf, WithCurrent, IsReading, all_rows}
 
 abbrev some : {A : Type 0} → A → Option A

@@ -3,6 +3,7 @@ pub mod Manifests
 pub mod TableFiles
 pub mod Replays
 pub mod Reading
+pub mod Answers
 pub mod Sound
 pub mod Standing
 pub mod Laws

@@ -1,5 +1,5 @@
 -- The batches of the logs from a number on.
-use Rattle.std.specs.Prelude.{◌≡◌, ℕ, ◌+◌, ◌==◌, List, [], ◌∷◌, ◌++◌, length, Result, Ok, Err, nat_lt, if◌then◌else◌}
+use Rattle.std.specs.Prelude.{◌≡◌, ℕ, ◌+◌, ◌<◌, ◌^◌, ◌==◌, List, [], ◌∷◌, ◌++◌, length, Result, Ok, Err, nat_lt, if◌then◌else◌}
 use Rattle.std.specs.List.{flat_map}
 use Rattle.keel_base.specs.declared.op.Op.{Op}
 use Rattle.keel_base.specs.declared.row.Row.{Row}
@@ -10,13 +10,11 @@ use Rattle.keel_frag.specs.declared.record.LogRecord.{LogRecord}
 use Rattle.keel_frag.specs.Reading.{AreRecords}
 use Rattle.keel_disk.specs.Directory.{Named}
 use Rattle.keel_batch.specs.Reading.{batch_of}
+use Rattle.keel_directory.specs.declared.logs.LogFile.{LogFile}
+use Rattle.keel_directory.specs.declared.logs.Replayed.{Replayed}
 use Rattle.keel_directory.specs.Refusals.{Refusal, bad_log, log_gap}
 
 -- ---- the logs and their records
-
-pub record LogFile : Type 0 where
-  pub number : ℕ
-  pub bytes : List ℕ
 
 -- a log at its place among logs in order of number
 abbrev pub put_log : LogFile → List LogFile → List LogFile
@@ -50,12 +48,6 @@ AreRead (file ∷ files) (log ∷ logs) = IsReadLog file log × AreRead files lo
 AreRead _ _ = ⊥
 
 -- ---- their batches
-
--- a batch, and the log that it was read from
-pub record Replayed : Type 0 where
-  pub log : ℕ
-  pub seq : ℕ
-  pub ops : List Op
 
 infixl 10 ◌>>=◌
 abbrev pub ◌>>=◌ : {A B : Type 0} → Result A Refusal → (A → Result B Refusal) → Result B Refusal
@@ -103,3 +95,7 @@ LogsAre image least last answer = (logs : List ReadLog) × AreRead (logs_from le
 
 abbrev pub replayed_rows : List Replayed → List Row
 replayed_rows batches = flat_map (λ b. op_rows b.seq b.ops) batches
+
+-- the numbers of a batch's ops are far below 2 ^ 64
+abbrev pub IsNumbered : Replayed → Type 0
+IsNumbered b = b.seq + length b.ops < 2 ^ 60

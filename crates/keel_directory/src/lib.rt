@@ -1,6 +1,10 @@
 //! What a directory with a manifest, tables and logs says as a store.
 //!
-//! Definitions, and what follows from them; nothing here runs.
+//! - `read_directory` reads a directory whose files are in memory. It is plain and slow, and its answer is the reading
+//!   that is defined here (`Reads` of `specs/Answers`): what faster reading is measured against.
+//! - `laws`: a directory has one reading, which needs few of its files; and what a settled device stands for.
+//!
+//! The definitions:
 //!
 //! - `specs/Reading`: the reading of a directory. Without CURRENT it is a new store, or refused. Else CURRENT names a
 //!   manifest (`specs/Manifests`), whose edits give a version; its tables are there and open (`specs/TableFiles`); and
@@ -8,12 +12,23 @@
 //!   fails first is the refusal (`specs/Refusals`). Of all rows of all tables and logs the newest of a key counts.
 //! - `specs/Sound`: the files are as the store itself makes them.
 //! - `specs/Standing`: the points that a crash may leave, and what it is that a device stands for them.
-//! - `laws`: a directory has one reading, which needs few of its files; and what a settled device stands for.
 //!
 //! It stands on the formats: `keel_frag`, `keel_batch`, `keel_edit` with `keel_version`, `keel_table`; and on `keel_disk` for
 //! directories and what crashes leave of them.
 #![tactic(auto)]
 
+mod answer;
+mod files;
 pub mod laws;
+mod logs;
+mod manifest;
+mod newest;
+mod reading;
+mod tables;
+
+pub use answer::{Damaged, Directory, Held, Pairs, ReadError};
+pub use files::File;
+pub use reading::read_directory;
+
 #[cfg(test)]
 mod tests;

@@ -1,0 +1,78 @@
+// The files of a directory.
+ghost use Rattle.std.specs.Prelude.{◌≡◌, IfOk, Some, option_map};
+ghost use Rattle.keel_base.specs.Name.{listed_before};
+ghost use Rattle.keel_disk.specs.Directory as directory;
+ghost use Rattle.keel_directory.specs.Reading as spec;
+
+use keel_base::{Bytes, FileName, OutOfMemory, same_name};
+use keel_name::print;
+use std::alloc::Global;
+
+/// A file with its name.
+pub type File = (FileName, Bytes);
+
+/// The bytes of a file.
+pub(crate) fn find(files: &[File], name: FileName) -> Option<&[u8]>
+    ensures { option_map (λ bytes. bytes.now) result ≡ directory.find name files.now }
+{
+    match files {
+        [] => None,
+        [file, rest @ ..] => {
+            if same_name(file.0, name) {
+                Some(file.1.as_slice())
+            } else {
+                find(rest, name)
+            }
+        }
+    }
+}
+
+fn is_listed_before(alloc: Global, one: FileName, other: FileName) -> Result<bool, OutOfMemory>
+    ensures { IfOk result (λ before. before ≡ listed_before one other) }
+{
+    let one = print(alloc, one)?;
+    let other = print(alloc, other)?;
+    Ok(one.as_slice().cmp(other.as_slice()).is_lt())
+}
+
+fn earlier(alloc: Global, name: FileName, found: Option<FileName>) -> Result<FileName, OutOfMemory>
+    ensures { IfOk result (λ first. Some first ≡ spec.earlier name found) }
+{
+    match found {
+        None => Ok(name),
+        Some(other) => {
+            if is_listed_before(alloc, other, name)? {
+                Ok(other)
+            } else {
+                Ok(name)
+            }
+        }
+    }
+}
+
+fn is_used(file: &File) -> bool
+    ensures { result ≡ spec.is_used file.now }
+{
+    match file.0 {
+        FileName::Table(_) | FileName::Trash(_) => true,
+        FileName::Log(_) => file.1.len() != 0,
+        FileName::Manifest(_) | FileName::Current | FileName::Temp(_) => false,
+    }
+}
+
+/// The first file of the listing that a new store doesn't have.
+pub(crate) fn first_used(alloc: Global, files: &[File]) -> Result<Option<FileName>, OutOfMemory>
+    ensures { IfOk result (λ found. found ≡ spec.first_used files.now) }
+{
+    match files {
+        [] => Ok(None),
+        [file, rest @ ..] => {
+            let found = first_used(alloc, rest)?;
+            if is_used(file) {
+                Ok(Some(earlier(alloc, file.0, found)?))
+            } else {
+                Ok(found)
+            }
+        }
+    }
+}

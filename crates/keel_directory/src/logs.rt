@@ -1,0 +1,241 @@
+// The batches of the logs from a number on.
+ghost use Rattle.std.specs.Prelude.{◌≡◌, ◌+◌, ◌<◌, ◌≤◌, ◌^◌, List, ◌++◌, length, nat_lt, IfErr, IfOk, Ok, Err, OnOk};
+ghost use Rattle.std.specs.List.{AllByRecursion, prefix_len};
+ghost use Rattle.keel_base.specs.Rows.{op_row, op_rows};
+ghost use Rattle.keel_batch.specs.Reading.{batch_of};
+ghost use Rattle.keel_directory.specs.declared.logs.Replayed.{Replayed as ABatch};
+ghost use Rattle.keel_directory.specs.Answers.{Answers, Names};
+ghost use Rattle.keel_directory.specs.Replays as spec;
+ghost use Rattle.keel_directory.specs.Replays.{ReadLog};
+
+use crate::answer::ReadError;
+use crate::files::File;
+use keel_base::{Bytes, FileName, Kind, Op, Ops, OutOfMemory, Row};
+use keel_batch::{BatchError, decode};
+use keel_frag::{LogRecord, read_log};
+use std::alloc::Global;
+
+/// A log that has a byte.
+#[derive(Debug, Drop)]
+pub struct LogFile {
+    pub number: u64,
+    pub bytes: Bytes,
+}
+
+/// A batch, and the log that it was read from.
+#[derive(Debug, Drop)]
+pub struct Replayed {
+    pub log: u64,
+    /// The number of the first op.
+    pub seq: u64,
+    pub ops: Ops,
+}
+
+/// How many logs from the first on have a lesser number.
+fn place_of(logs: &[LogFile], number: u64) -> usize
+    ensures place { result ≡ prefix_len (λ log. nat_lt log.number number) logs.now }
+    ensures within { result ≤ length logs.now }
+{
+    match logs {
+        [] => 0,
+        [log, rest @ ..] => {
+            if log.number < number {
+                1 + place_of(rest, number)
+            } else {
+                0
+            }
+        }
+    }
+}
+
+/// Puts a log at its place among logs in order of number. It takes the place of one with its number.
+fn put_log(logs: &mut Vec<LogFile>, log: LogFile) -> Result<(), OutOfMemory>
+    ensures { OnOk result (logs.new.items ≡ spec.put_log log logs.old.items) }
+{
+    let place = place_of(logs.as_slice(), log.number);
+    if place < logs.len() && logs[place].number == log.number {
+        logs[place] = log;
+        return Ok(());
+    }
+    logs.insert(place, log)?;
+    Ok(())
+}
+
+/// Puts a file among the logs, where it is one of that number or more with a byte.
+fn put_file(
+    alloc: Global,
+    least: u64,
+    file: &File,
+    logs: &mut Vec<LogFile>,
+) -> Result<(), OutOfMemory>
+    ensures { OnOk result (logs.new.items ≡ spec.with_log least file.now logs.old.items) }
+{
+    let FileName::Log(number) = file.0 else {
+        return Ok(());
+    };
+    if file.1.len() == 0 || number < least {
+        return Ok(());
+    }
+    let bytes = Bytes::from_slice(alloc, file.1.as_slice())?;
+    put_log(logs, LogFile { number, bytes })
+}
+
+/// The logs from a number on that have a byte, in order.
+fn logs_from(alloc: Global, least: u64, files: &[File]) -> Result<Vec<LogFile>, OutOfMemory>
+    ensures { IfOk result (λ logs. logs.items ≡ spec.logs_from least files.now) }
+{
+    match files {
+        [] => Ok(Vec::new(alloc)),
+        [file, rest @ ..] => {
+            let mut logs = logs_from(alloc, least, rest)?;
+            put_file(alloc, least, file, &mut logs)?;
+            Ok(logs)
+        }
+    }
+}
+
+/// The batch of a record.
+fn batch_in(alloc: Global, log: u64, found: &LogRecord) -> Result<Replayed, ReadError>
+    ensures batch { Answers (λ batch. batch) (λ answer. answer ≡ spec.batch_found log found.now (batch_of found.now.payload)) result }
+    ensures numbered { IfOk result spec.IsNumbered }
+{
+    match decode(alloc, found.payload.as_slice()) {
+        Ok(batch) => Ok(Replayed {
+            log,
+            seq: batch.seq,
+            ops: batch.ops,
+        }),
+        Err(BatchError::BadBatch { .. }) => Err(ReadError::BadLog {
+            log,
+            at: found.place,
+        }),
+        Err(BatchError::OutOfMemory) => Err(ReadError::OutOfMemory),
+    }
+}
+
+/// Adds the batches of a log's records.
+fn add_records(
+    alloc: Global,
+    log: u64,
+    records: &[LogRecord],
+    batches: &mut Vec<Replayed>,
+) -> Result<(), ReadError>
+    ensures ok { OnOk result ((found : List ABatch) × (spec.batches_of log records.now ≡ Ok found) × (batches.new.items ≡ batches.old.items ++ found)) }
+    ensures err { IfErr result (λ e. Names e (λ refusal. spec.batches_of log records.now ≡ Err refusal)) }
+    ensures numbered { OnOk result (AllByRecursion spec.IsNumbered batches.old.items → AllByRecursion spec.IsNumbered batches.new.items) }
+{
+    match records {
+        [] => Ok(()),
+        [found, rest @ ..] => {
+            batches.push(batch_in(alloc, log, found)?)?;
+            add_records(alloc, log, rest, batches)
+        }
+    }
+}
+
+/// Adds the batches of logs.
+fn add_logs(alloc: Global, logs: &[LogFile], batches: &mut Vec<Replayed>) -> Result<(), ReadError>
+    ensures ok { OnOk result ((read : List ReadLog) × spec.AreRead logs.now read × (found : List ABatch) × (spec.all_batches read ≡ Ok found) × (batches.new.items ≡ batches.old.items ++ found)) }
+    ensures err { IfErr result (λ e. Names e (λ refusal. (read : List ReadLog) × spec.AreRead logs.now read × (spec.all_batches read ≡ Err refusal))) }
+    ensures numbered { OnOk result (AllByRecursion spec.IsNumbered batches.old.items → AllByRecursion spec.IsNumbered batches.new.items) }
+{
+    match logs {
+        [] => Ok(()),
+        [log, rest @ ..] => {
+            let records = read_log(alloc, log.bytes.as_slice())?;
+            match add_records(alloc, log.number, records.all.as_slice(), batches) {
+                Ok(()) => add_logs(alloc, rest, batches),
+                Err(error) => Err(error),
+            }
+        }
+    }
+}
+
+/// The number of the last op, where each batch begins behind the one before.
+fn last_number(last: u64, batches: &[Replayed]) -> Result<u64, ReadError>
+    requires { AllByRecursion spec.IsNumbered batches.now }
+    ensures { Answers (λ end. end) (λ answer. answer ≡ spec.run_on last batches.now) result }
+{
+    match batches {
+        [] => Ok(last),
+        [batch, rest @ ..] => {
+            if batch.seq == 0 || batch.seq - 1 != last {
+                return Err(ReadError::LogGap {
+                    log: batch.log,
+                    last,
+                    found: batch.seq,
+                });
+            }
+            last_number(last + batch.ops.len() as u64, rest)
+        }
+    }
+}
+
+/// What the logs from a number on give, where the last op before them has the number `last`.
+pub(crate) fn replay(
+    alloc: Global,
+    files: &[File],
+    least: u64,
+    last: u64,
+) -> Result<(Vec<Replayed>, u64), ReadError>
+    ensures answer { Answers (λ x. record { batches = x.0.items; last = x.1 }) (spec.LogsAre files.now least last) result }
+    ensures numbered { IfOk result (λ x. AllByRecursion spec.IsNumbered x.0.items) }
+{
+    let logs = logs_from(alloc, least, files)?;
+    let mut batches = Vec::new(alloc);
+    add_logs(alloc, logs.as_slice(), &mut batches)?;
+    let last = last_number(last, batches.as_slice())?;
+    Ok((batches, last))
+}
+
+/// The row that an op of that number leaves.
+fn row_of(alloc: Global, seq: u64, op: &Op) -> Result<Row, OutOfMemory>
+    ensures { IfOk result (λ row. row ≡ op_row seq op.now) }
+{
+    match op {
+        Op::Put { key, value } => Ok(Row {
+            seq,
+            kind: Kind::Put,
+            key: Bytes::from_slice(alloc, key.as_slice())?,
+            value: Bytes::from_slice(alloc, value.as_slice())?,
+        }),
+        Op::Del { key } => Ok(Row {
+            seq,
+            kind: Kind::Del,
+            key: Bytes::from_slice(alloc, key.as_slice())?,
+            value: Bytes::new(alloc),
+        }),
+    }
+}
+
+/// Adds the rows of ops that are numbered from a number on.
+fn add_ops(alloc: Global, seq: u64, ops: &[Op], rows: &mut Vec<Row>) -> Result<(), OutOfMemory>
+    requires { seq + length ops.now < 2 ^ 64 }
+    ensures { OnOk result (rows.new.items ≡ rows.old.items ++ op_rows seq ops.now) }
+{
+    match ops {
+        [] => Ok(()),
+        [op, rest @ ..] => {
+            rows.push(row_of(alloc, seq, op)?)?;
+            add_ops(alloc, seq + 1, rest, rows)
+        }
+    }
+}
+
+/// Adds the rows of batches.
+pub(crate) fn add_batches(
+    alloc: Global,
+    batches: &[Replayed],
+    rows: &mut Vec<Row>,
+) -> Result<(), OutOfMemory>
+    requires { AllByRecursion spec.IsNumbered batches.now }
+    ensures { OnOk result (rows.new.items ≡ rows.old.items ++ spec.replayed_rows batches.now) }
+{
+    match batches {
+        [] => Ok(()),
+        [batch, rest @ ..] => {
+            add_ops(alloc, batch.seq, batch.ops.as_slice(), rows)?;
+            add_batches(alloc, rest, rows)
+        }
+    }
+}

@@ -1,0 +1,99 @@
+// CURRENT, and the version that a manifest gives.
+ghost use Rattle.std.specs.Prelude.{◌≡◌, ℕ, IfNone, IfSome, Ok, take, option_map};
+ghost use Rattle.keel_edit.specs.Reading.{edit_of};
+ghost use Rattle.keel_directory.specs.Answers.{Answers};
+ghost use Rattle.keel_directory.specs.Manifests as spec;
+
+use crate::answer::ReadError;
+use keel_base::{Bytes, FileName};
+use keel_edit::{EditError, decode};
+use keel_frag::{LogRecord, read_log};
+use keel_name::read;
+use keel_version::{ApplyError, Version};
+use std::alloc::Global;
+
+/// The number of the manifest that CURRENT's bytes name.
+fn named(bytes: &[u8]) -> Option<u64>
+    ensures named { IfSome result (λ number. spec.Names bytes.now number) }
+    ensures none { IfNone result ((number : ℕ) → spec.Names bytes.now number → ⊥) }
+{
+    let (newline, name) = bytes.split_last()?;
+    if *newline != b'\n' {
+        return None;
+    }
+    match read(name)? {
+        FileName::Manifest(number) => Some(number),
+        _ => None,
+    }
+}
+
+/// What begins some bytes, 64 of them where there are more.
+fn front(bytes: &[u8]) -> &[u8]
+    ensures { result.now ≡ take 64 bytes.now }
+{
+    if bytes.len() <= 64 {
+        return bytes;
+    }
+    let (front, _) = bytes.split_at(64);
+    front
+}
+
+/// The number of the manifest that CURRENT's bytes name, or their refusal.
+pub(crate) fn current_manifest(alloc: Global, bytes: &[u8]) -> Result<u64, ReadError>
+    ensures { Answers (λ number. number) (spec.CurrentIs bytes.now) result }
+{
+    match named(bytes) {
+        Some(number) => Ok(number),
+        None => Err(ReadError::BadCurrent {
+            bytes: Bytes::from_slice(alloc, front(bytes))?,
+        }),
+    }
+}
+
+/// The version behind a record, which has to be an edit that applies.
+fn behind_record(alloc: Global, version: &Version, found: &LogRecord) -> Result<Version, ReadError>
+    ensures { Answers (λ next. next) (λ answer. answer ≡ spec.next_version found.now.place (spec.behind_edit version.now (edit_of found.now.payload)) (λ next. Ok next)) result }
+{
+    let at = found.place;
+    let edit = match decode(alloc, found.payload.as_slice()) {
+        Ok(edit) => edit,
+        Err(EditError::BadShape { .. }) => return Err(ReadError::DamagedManifest { at }),
+        Err(EditError::OutOfMemory) => return Err(ReadError::OutOfMemory),
+    };
+    match version.apply(alloc, &edit) {
+        Ok(next) => Ok(next),
+        Err(ApplyError::BadEdit { .. }) => Err(ReadError::DamagedManifest { at }),
+        Err(ApplyError::OutOfMemory) => Err(ReadError::OutOfMemory),
+    }
+}
+
+/// The version behind records that are edits which apply in turn.
+fn behind_records(
+    alloc: Global,
+    version: Version,
+    records: &[LogRecord],
+) -> Result<Version, ReadError>
+    ensures { Answers (λ next. next) (λ answer. answer ≡ spec.behind_edits version records.now) result }
+{
+    match records {
+        [] => Ok(version),
+        [found, rest @ ..] => {
+            let next = behind_record(alloc, &version, found)?;
+            behind_records(alloc, next, rest)
+        }
+    }
+}
+
+/// The version of a manifest, which has an edit at least.
+pub(crate) fn manifest_version(alloc: Global, manifest: Option<&[u8]>) -> Result<Version, ReadError>
+    ensures { Answers (λ version. version) (spec.ManifestIs (option_map (λ bytes. bytes.now) manifest.entry)) result }
+{
+    let Some(bytes) = manifest else {
+        return Err(ReadError::DamagedManifest { at: 0 });
+    };
+    let records = read_log(alloc, bytes)?;
+    if records.all.is_empty() {
+        return Err(ReadError::DamagedManifest { at: 0 });
+    }
+    behind_records(alloc, Version::empty(alloc), records.all.as_slice())
+}
