@@ -10,7 +10,7 @@ ghost use Rattle.keel_core.specs.Queues.{given};
 use keel_base::{Batch, Failure, OutOfMemory};
 use keel_group::{Formed, Group};
 use keel_machine::Outcome;
-use std::alloc::{AllocError, Global};
+use std::alloc::Global;
 
 /// The group in flight, which has its batches until they are handed to the log.
 #[derive(Drop)]
@@ -66,8 +66,8 @@ impl Queue {
         }
     }
 
-    /// Takes the memory for the outcomes of all that wait, of one batch more, and of the group in flight.
-    pub(crate) fn reserve(&mut self) -> Result<(), AllocError>
+    /// Takes the memory of one batch more, and of the outcomes of all that wait, of this one, and of the group in flight.
+    pub(crate) fn reserve(&mut self) -> Result<(), OutOfMemory>
         requires { length (tickets_in (flying self.old.group)) ≤ 64 }
         ensures waiting { self.new.waiting ≡ self.old.waiting }
         ensures group { self.new.group ≡ self.old.group }
@@ -78,8 +78,10 @@ impl Queue {
         ensures room { vec_capacity self.old.outcomes ≤ vec_capacity self.new.outcomes }
         ensures ok { OnOk result (vec_len self.new.outcomes + (length (tickets_in (flying self.old.group)) + length self.old.waiting + 1) ≤ vec_capacity self.new.outcomes) }
     {
+        self.waiting.reserve()?;
         let count = self.in_flight() + self.waiting.waiting() as usize + 1;
-        self.outcomes.reserve(count)
+        self.outcomes.reserve(count)?;
+        Ok(())
     }
 
     /// How many ops wait or are in flight and aren't handed to the log.

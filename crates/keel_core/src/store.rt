@@ -103,10 +103,11 @@ impl<D: Disk> Core<D> {
             return Admit::QueueFull { waiting };
         }
         let held = self.queue.held() + waiting as usize;
-        if self.mem.reserve(&batch).is_err() {
+        if self.trail.reserve(held + 1).is_err() || self.queue.reserve().is_err() {
             return Admit::OutOfMemory;
         }
-        if self.trail.reserve(held + 1).is_err() || self.queue.reserve().is_err() {
+        // Room in the memtable adds up, so it is the last that is taken: a refused batch has none.
+        if self.mem.reserve(&batch).is_err() {
             return Admit::OutOfMemory;
         }
         let ticket = self.queue.last_ticket + 1;

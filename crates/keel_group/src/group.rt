@@ -40,6 +40,15 @@ impl Group {
         }
     }
 
+    /// Takes the memory of one batch more, so that `join` needs none for it. The queue is as before.
+    pub fn reserve(&mut self) -> Result<(), OutOfMemory>
+        ensures { self.new ≡ self.old }
+    {
+        self.batches.reserve(1)?;
+        self.tickets.reserve(1)?;
+        Ok(())
+    }
+
     /// Puts a batch of 1 to 1000 ops, each within its limits, at the end of the queue. A batch that isn't queued is
     /// dropped, and the queue is as before: exactly where `MAX_WAITING` batches wait already, or memory ran out.
     pub fn join(&mut self, ticket: u64, batch: Batch) -> Joined

@@ -31,6 +31,7 @@ fn the_queue_takes_64(rt: HostRuntime) -> Result<(), Fail> {
     let alloc = rt.alloc();
     let mut queue = Group::new(alloc);
     for ticket in 1..65 {
+        assert!(rt; queue.reserve().is_ok());
         let batch = puts(alloc, 1, 1, ticket == 60).ok().ok_or("memory")?;
         assert_eq!(rt; joined(&mut queue, ticket, batch), Joined::Queued);
     }

@@ -45,11 +45,11 @@ returns-then-waiting-ge-MAX_WAITING g c =
 pub invariant_of-self-in-Queued : goal.invariant_of-self-in-Queued
 invariant_of-self-in-Queued g c =
     let w = c.self.inside in
-    let t = c.reserve-2.ensures in
-    let q = c.reserve-else-is_err-2.ensures in
-    let trail_ok = where_ok c.reserve-2.result (sym c.is_err-2.ensures.value ∙ c.if-is_err-2.false) t.ok in
-    let outcome_ok = where_ok c.reserve-else-is_err-2.result (sym c.is_err-else-is_err-2.ensures.value ∙ c.if-is_err-3.false) q.ok in
-    joined_in_order w.mem c.reserve.new.self w.trail c.reserve-2.new.self w.queue _ w.log w.last_seq w.handed_seq w.next_file c.args.batch c.self.invariant
+    let t = c.reserve.ensures in
+    let q = c.reserve-else-is_err.ensures in
+    let trail_ok = where_ok c.reserve.result (sym c.is_err.ensures.value ∙ c.if-is_err.false) t.ok in
+    let outcome_ok = where_ok c.reserve-else-is_err.result (sym c.is_err-else-is_err.ensures.value ∙ c.if-is_err-2.false) q.ok in
+    joined_in_order w.mem c.reserve-2.new.self w.trail c.reserve.new.self w.queue _ w.log w.last_seq w.handed_seq w.next_file c.args.batch c.self.invariant
     (record {
       shows = t.same;
       trail_room = omega (arith, trail_ok, c.held.ensures, c.waiting-waiting.ensures.count);
@@ -62,18 +62,18 @@ invariant_of-self-in-Queued g c =
     })
     (omega (arith, c.ops_before.ensures, c.len-ops.ensures, c.if-self-ops_before-gt-LAST_NUMBER.false)) (omega (arith, c.if-self-ge-LAST_NUMBER.false))
     (record {
-      rows = c.reserve.ensures.rows;
-      bytes = where_ok c.reserve.result (sym c.is_err.ensures.value ∙ c.if-is_err.false) c.reserve.ensures.bytes;
-      entries = where_ok c.reserve.result (sym c.is_err.ensures.value ∙ c.if-is_err.false) c.reserve.ensures.entries;
+      rows = c.reserve-2.ensures.rows;
+      bytes = where_ok c.reserve-2.result (sym c.is_err-2.ensures.value ∙ c.if-is_err-3.false) c.reserve-2.ensures.bytes;
+      entries = where_ok c.reserve-2.result (sym c.is_err-2.ensures.value ∙ c.if-is_err-3.false) c.reserve-2.ensures.entries;
     })
 
-pub reserve-requires-clause-limits : goal.reserve-requires-clause-limits
-reserve-requires-clause-limits g c = (admissible c.args.batch (sym c.size_refusal.ensures ∙ c.in_default.is)).each
+pub reserve-requires-2-clause-limits : goal.reserve-requires-2-clause-limits
+reserve-requires-2-clause-limits g c = (admissible c.args.batch (sym c.size_refusal.ensures ∙ c.in_default.is)).each
 
 pub returns-in-Queued : goal.returns-in-Queued
 returns-in-Queued g c =
     let w = c.self.inside in
-    let q = c.reserve-else-is_err-2.ensures in
+    let q = c.reserve-else-is_err.ensures in
     let D = g.D.Disk in
     let old : CoreView = record {
       device = seen (D.told w.disk) (D.changes w.disk) (D.faults w.disk) (D.last_fault w.disk) (D.is_simulated w.disk);
@@ -89,7 +89,7 @@ returns-in-Queued g c =
     } in
     let added = c.in-Queued.ensures.added ∙ (λ k. q.waiting k ++ ticketed (q.last_ticket k + 1) c.args.batch ∷ []) in
     record {
-      turn = rw (← c.self.view_is, c.reserve-2.ensures.same, added, q.group, q.outcomes, q.last_ticket, q.job)
+      turn = rw (← c.self.view_is, c.reserve.ensures.same, added, q.group, q.outcomes, q.last_ticket, q.job)
           (queued_goes old c.args.batch w.last_seq w.handed_seq (sym c.size_refusal.ensures ∙ c.in_default.is) c.in-None.is (omega (arith, c.waiting-waiting.ensures.count, c.if-waiting-ge-MAX_WAITING.false))
           c.self.invariant.seq c.self.invariant.handed (omega (arith, c.ops_before.ensures, c.len-ops.ensures, c.if-self-ops_before-gt-LAST_NUMBER.false)) (omega (arith, c.if-self-ge-LAST_NUMBER.false)));
     }
