@@ -2,10 +2,9 @@
 use Rattle.std.proofs.Common.{◌≡◌, ℕ, Bool, true, false, cond, List, [], ◌∷◌, Option, Some, None, refl, sym, ap, subst, ◌∙◌}
 use Rattle.std.specs.Prelude.{not, filter}
 use Rattle.std.proofs.lemmas.Bool.{lt-ltb, le-ltb, leb-true, leb-false}
-use Rattle.std.specs.declared.cmp.Ordering.{Ordering}
-use Rattle.std.specs.declared.cmp.Ordering.TheVariants.{Less, Equal, Greater}
-use Rattle.std.specs.Ordering.{is_eq, eq_by_cmp}
-use Rattle.std.proofs.lemmas.Cmp.{nat_list_cmp_total, tied_itself, eq_by_cmp_equiv}
+use Rattle.std.specs.declared.cmp.Ordering.TheVariants.{Equal}
+use Rattle.std.specs.Ordering.{eq_by_cmp}
+use Rattle.std.proofs.lemmas.Cmp.{nat_list_cmp_total, eq_by_cmp_equiv}
 use Rattle.std.proofs.lemmas.Map.Lookups.{exact_bytes}
 use Rattle.std.specs.FinMap.{entries, get, insert, from_sorted, entries_sorted, entries-from_sorted, get-from_sorted, get-entries, entries-insert, get-insert}
 use Rattle.std.specs.FinMap.Entries.{find, put, is_sorted-where_key, find-where_key}
@@ -15,20 +14,10 @@ use Rattle.keel_base.specs.declared.row.Kind.TheVariants as kinds
 use Rattle.keel_base.specs.Keys.{key_cmp, key_eq}
 use Rattle.keel_base.specs.Points.{Values}
 use Rattle.keel_base.specs.Rows.{newer, newest, value_left, kept}
+use Rattle.keel_table.proofs.KeyOrder.{eq_same, eq_itself}
 use Rattle.keel_directory.specs.Answers.{PairList, Sets, ArePairsOf, is_over}
 
 -- ---- keys
-
-equal : (o : Ordering) → is_eq o ≡ true → o ≡ Equal
-equal Less e = cc
-equal Equal e = refl
-equal Greater e = cc
-
-same_key : (a b : List ℕ) → key_eq a b ≡ true → a ≡ b
-same_key a b e = exact_bytes a b (equal (key_cmp a b) e)
-
-itself : (a : List ℕ) → key_eq a a ≡ true
-itself a = ap is_eq (tied_itself nat_list_cmp_total a)
 
 turned_key : (a b : List ℕ) → eq_by_cmp key_cmp b a ≡ key_eq a b
 turned_key a b = sym ((eq_by_cmp_equiv nat_list_cmp_total).symm a b)
@@ -52,7 +41,7 @@ found_left : (key q : List ℕ) (pairs : PairList) → find key_cmp q (left key 
 found_left key q pairs = find-where_key key_cmp (stays key) q (alike key q) pairs ∙ turned (key_eq key q) (find key_cmp q pairs) None
 
 pub none_left : (key : List ℕ) (pairs : PairList) → find key_cmp key (left key pairs) ≡ None
-none_left key pairs = found_left key key pairs ∙ ap (λ (b : Bool). cond b None (find key_cmp key pairs)) (itself key)
+none_left key pairs = found_left key key pairs ∙ ap (λ (b : Bool). cond b None (find key_cmp key pairs)) (eq_itself key)
 
 -- the map without a key
 record IsWithout (key : List ℕ) (values after : Values) : Type 0 where
@@ -115,7 +104,7 @@ pub not_over : (row : Row) (rows : List Row) (pairs : PairList) → is_over row 
 not_over row rows pairs below are =
     let same : (key : List ℕ) → newest key (row ∷ rows) ≡ newest key rows =
     λ key. chosen (key_eq row.key key) (newer row (newest key rows)) (newest key rows) (newest key rows)
-    (λ e. subst (λ (k : List ℕ). newer row (newest k rows) ≡ newest k rows) (same_key row.key key e) (older row (newest row.key rows) below)) (λ e. refl) in
+    (λ e. subst (λ (k : List ℕ). newer row (newest k rows) ≡ newest k rows) (eq_same row.key key e) (older row (newest row.key rows) below)) (λ e. refl) in
     (are.0, λ key. are.1 key ∙ ap value_left (sym (same key)), are.2)
 
 -- the newest of its key sets what it leaves
@@ -124,7 +113,7 @@ is_newest_row row rows pairs set above sets are =
     let after = sets are.0 are.2 in
     let left_by : List ℕ → Option (List ℕ) = λ key. value_left (newest key (row ∷ rows)) in
     let here : (key : List ℕ) → key_eq row.key key ≡ true → left_by key ≡ kept row.kind row.value =
-    λ key e. rw e (subst (λ (k : List ℕ). value_left (newer row (newest k rows)) ≡ kept row.kind row.value) (same_key row.key key e) (ap value_left (over row (newest row.key rows) above))) in
+    λ key e. rw e (subst (λ (k : List ℕ). value_left (newer row (newest k rows)) ≡ kept row.kind row.value) (eq_same row.key key e) (ap value_left (over row (newest row.key rows) above))) in
     let there : (key : List ℕ) → key_eq row.key key ≡ false → left_by key ≡ get are.0 key = λ key e. rw e (sym (are.1 key)) in
     (after.0, λ key. after.2 key ∙ chosen (key_eq row.key key) (kept row.kind row.value) (get are.0 key) (left_by key) (λ e. sym (here key e)) (λ e. sym (there key e)), after.1)
 
