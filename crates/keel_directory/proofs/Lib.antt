@@ -8,3 +8,4 @@ pub mod Sliced
 pub mod Replaying
 pub mod Opening
 pub mod Holding
+pub mod Those

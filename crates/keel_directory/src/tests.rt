@@ -221,5 +221,8 @@ fn laws_are_called(_rt: HostRuntime) -> Result<(), Fail> {
     laws::unneeded_files();
     laws::new_stores();
     laws::settled_stands();
+    laws::logs_are_those();
+    laws::least_is_least();
+    laws::first_is_first();
     Ok(())
 }
