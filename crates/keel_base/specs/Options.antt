@@ -1,5 +1,5 @@
--- The ranges of the options.
-use Rattle.std.specs.Prelude.{ℕ, ◌≤◌}
+-- The ranges of the options, and what they are where nothing was set.
+use Rattle.std.specs.Prelude.{ℕ, ◌≤◌, true}
 use Rattle.keel_base.specs.declared.options.Options.{Options}
 
 pub record IsBetween (least greatest value : ℕ) : Type 0 where
@@ -20,3 +20,22 @@ pub record AreInRange (options : Options) : Type 0 where
   pub rate : IsBetween 0 1099511627776 options.rate
   pub ratio : IsBetween 0 1000000 options.ratio
   pub chunk : IsBetween 0 1099511627776 options.chunk
+
+-- the settings of a store for which nothing was set
+abbrev pub standard : Options
+standard = record {
+  paranoid = true;
+  auto = true;
+  attempts = 16;
+  interval = 1000;
+  write_buffer = 65536;
+  max_immutables = 2;
+  level0_trigger = 4;
+  level_base = 262144;
+  table_size = 65536;
+  limit = 0;
+  buffer = 0;
+  rate = 0;
+  ratio = 250;
+  chunk = 65536;
+}

@@ -1,5 +1,5 @@
--- What rows say of keys: of all rows of a key, the one of the greatest sequence number counts.
-use Rattle.std.specs.Prelude.{◌≡◌, ℕ, ◌+◌, List, [], ◌∷◌, Option, Some, None, nat_lt, if◌then◌else◌}
+-- What a row is, and what rows say of keys: of all rows of a key, the one of the greatest sequence number counts.
+use Rattle.std.specs.Prelude.{◌≡◌, ℕ, ◌+◌, ◌^◌, ◌<◌, ◌≤◌, List, [], ◌∷◌, length, Option, Some, None, nat_lt, if◌then◌else◌}
 use Rattle.std.specs.FinMap.{get}
 use Rattle.keel_base.specs.declared.op.Op.{Op}
 use Rattle.keel_base.specs.declared.op.Op.TheVariants.{Put, Del}
@@ -8,6 +8,18 @@ use Rattle.keel_base.specs.declared.row.Kind.{Kind}
 use Rattle.keel_base.specs.declared.row.Kind.TheVariants as kinds
 use Rattle.keel_base.specs.Keys.{key_eq}
 use Rattle.keel_base.specs.Points.{Values}
+
+-- how many bytes the value of a row of that kind may have
+abbrev pub most_value : Kind → ℕ
+most_value kinds.Put = 65536
+most_value kinds.Del = 0
+
+-- a key and a value within their limits; a delete has an empty value
+pub record IsRow (r : Row) : Type 0 where
+  pub seq : r.seq < 2 ^ 64
+  pub least : 1 ≤ length r.key
+  pub most : length r.key ≤ 1024
+  pub value : length r.value ≤ most_value r.kind
 
 -- what an op of that number leaves
 abbrev pub op_row : ℕ → Op → Row

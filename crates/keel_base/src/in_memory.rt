@@ -1,6 +1,7 @@
 // Sources and sinks in memory, which fail where they are told to.
-ghost use Rattle.std.specs.Prelude.{◌≡◌, ◌+◌, ◌≤◌, Some, None, Ok, [], length, drop};
-ghost use Rattle.std.specs.Io.KnownBytes.{ReadConsumes};
+ghost use Rattle.std.specs.Prelude.{◌≡◌, ◌↔◌, ◌+◌, ◌<◌, ◌≤◌, Some, None, Ok, [], length, drop, Contains, IfOk, IsErr};
+ghost use Rattle.std.specs.Io.KnownBytes.{ReadConsumes, WriteAppends};
+ghost use Rattle.keel_base.specs.Counts.{HasCause, Rose, raised};
 
 use crate::{Bytes, Failed, Sequence, Sink, Source};
 use std::alloc::Global;
@@ -33,10 +34,13 @@ pub struct MemSource {
 }
 
 impl MemSource {
-    ghost use Rattle.keel_base.specs.InMemory.{source_left};
+    ghost use Rattle.keel_base.specs.InMemory.{source_left, source_fails, source_call, source_faults};
 
     pub fn new(bytes: Bytes, fails: Calls) -> Self
-        ensures { source_left result ≡ bytes }
+        ensures left { source_left result ≡ bytes }
+        ensures fails { source_fails result ≡ fails }
+        ensures call { source_call result ≡ 0 }
+        ensures faults { source_faults result ≡ 0 }
     {
         MemSource {
             bytes,
@@ -49,11 +53,20 @@ impl MemSource {
 }
 
 impl Source for MemSource {
+    ghost use Rattle.keel_base.specs.InMemory.{source_left, source_fails, source_call, source_faults};
+
     ghost remaining = { λ s. Some (drop s.place s.bytes) };
 
     ghost faults = { λ s. s.faults };
 
-    fn take(&mut self, buffer: &mut [u8]) -> Result<usize, Failed> {
+    fn take(&mut self, buffer: &mut [u8]) -> Result<usize, Failed>
+        ensures bound { IfOk result (λ n. n ≤ length buffer.new) }
+        ensures bytes { ReadConsumes (Some (source_left self.old)) (Some (source_left self.new)) result buffer.new }
+        ensures cause { HasCause (source_faults self.old) (source_faults self.new) result }
+        ensures exact { IsErr result ↔ Contains (source_fails self.old) (source_call self.old) }
+        ensures fails { source_fails self.new ≡ source_fails self.old }
+        ensures call { source_call self.new ≡ raised (source_call self.old) }
+    {
         let call = self.calls;
         self.calls = call.saturating_add(1);
         if self.fails.as_slice().contains(&call) {
@@ -76,10 +89,13 @@ pub struct MemSink {
 }
 
 impl MemSink {
-    ghost use Rattle.keel_base.specs.InMemory.{sink_held};
+    ghost use Rattle.keel_base.specs.InMemory.{sink_held, sink_fails, sink_call, sink_faults};
 
     pub fn new(alloc: Global, fails: Calls) -> Self
-        ensures { sink_held result ≡ [] }
+        ensures held { sink_held result ≡ [] }
+        ensures fails { sink_fails result ≡ fails }
+        ensures call { sink_call result ≡ 0 }
+        ensures faults { sink_faults result ≡ 0 }
     {
         MemSink {
             held: Vec::new(alloc),
@@ -98,11 +114,21 @@ impl MemSink {
 }
 
 impl Sink for MemSink {
+    ghost use Rattle.keel_base.specs.InMemory.{sink_held, sink_fails, sink_call, sink_faults};
+
     ghost held = { λ s. Some s.held.items };
 
     ghost faults = { λ s. s.faults };
 
-    fn give(&mut self, bytes: &[u8]) -> Result<usize, Failed> {
+    fn give(&mut self, bytes: &[u8]) -> Result<usize, Failed>
+        ensures bound { IfOk result (λ n. n ≤ length bytes.now) }
+        ensures bytes { WriteAppends (Some (sink_held self.old)) (Some (sink_held self.new)) result bytes.now }
+        ensures cause { HasCause (sink_faults self.old) (sink_faults self.new) result }
+        ensures nothing { IfOk result (λ n. n ≡ 0 → 0 < length bytes.now → Rose (sink_faults self.old) (sink_faults self.new)) }
+        ensures exact { Contains (sink_fails self.old) (sink_call self.old) → IsErr result }
+        ensures fails { sink_fails self.new ≡ sink_fails self.old }
+        ensures call { sink_call self.new ≡ raised (sink_call self.old) }
+    {
         let call = self.calls;
         self.calls = call.saturating_add(1);
         if self.fails.as_slice().contains(&call) || self.held.extend_from_slice(bytes).is_err() {

@@ -1,6 +1,7 @@
 //! What every layer of the store shares.
 //!
 //! - `Sequence`, and under names of their own `Bytes`, `Ops`, `Batches`, `Listing`: lists on the heap.
+//! - `ReservedList`: a list whose room is taken first, so that adding to it can't fail.
 //! - `Op` and `Batch`: changes of the map, with the limits of their sizes and their weight.
 //! - `Row` and `Kind`: what a change leaves of a key; of a key's rows the newest counts.
 //! - `FileName`, `Fault`, `Reason`, `Failure`, `Grade`, `Call`: the words in which layers speak of the device.
@@ -20,6 +21,7 @@ mod listing;
 mod memory;
 mod op;
 mod options;
+mod reserved;
 mod row;
 mod sequence;
 mod sink;
@@ -34,6 +36,7 @@ pub use listing::{Entry, Listing};
 pub use memory::OutOfMemory;
 pub use op::{Batch, Batches, Op, Ops, ops_weight, weight};
 pub use options::Options;
+pub use reserved::ReservedList;
 pub use row::{Kind, Row, RowLists, Rows};
 pub use sequence::Sequence;
 pub use sink::{Sink, give_all};

@@ -1,5 +1,6 @@
 // What a user can set.
-ghost use Rattle.keel_base.specs.Options.{AreInRange};
+ghost use Rattle.std.specs.Prelude.{◌≡◌};
+ghost use Rattle.keel_base.specs.Options.{AreInRange, standard};
 
 /// The settings of a store. Sizes and rates are in bytes, intervals in ticks of one millisecond.
 #[derive(Clone, Copy, Debug)]
@@ -37,7 +38,8 @@ pub struct Options {
 impl Options {
     /// The settings of a store for which nothing was set.
     pub fn standard() -> Options
-        ensures { AreInRange result }
+        ensures values { result ≡ standard }
+        ensures in_range { AreInRange result }
     {
         Options {
             paranoid: true,

@@ -1,7 +1,7 @@
 use crate::{
     Bytes, Calls, Failed, FileName, Kind, MemSink, MemSource, Op, Ops, Options, OutOfMemory,
-    PlainSink, PlainSource, Row, Rows, Sink, Source, TakeEnd, give_all, ops_weight, same_name,
-    take_all, weight,
+    PlainSink, PlainSource, ReservedList, Row, Rows, Sink, Source, TakeEnd, give_all, ops_weight,
+    same_name, take_all, weight,
 };
 use std::alloc::Global;
 use std::test::Fail;
@@ -100,5 +100,16 @@ fn a_list_is_the_vector_that_it_was_made_of(rt: HostRuntime) -> Result<(), Fail>
     let rows = Rows::from_vec(rows).into_vec();
     assert_eq!(rt; rows.len(), 1);
     assert_eq!(rt; rows[0].seq, 2);
+    Ok(())
+}
+
+#[test]
+fn a_reserved_list_takes_what_has_room(rt: HostRuntime) -> Result<(), Fail> {
+    let mut list = ReservedList::new(rt.alloc());
+    list.reserve(2).ok().ok_or("memory")?;
+    list.push_reserved(7_u64);
+    list.push_reserved(8);
+    assert_eq!(rt; list.as_slice(), [7, 8].as_slice());
+    assert_eq!(rt; list.into_sequence().len(), 2);
     Ok(())
 }
