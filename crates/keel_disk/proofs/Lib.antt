@@ -1,6 +1,8 @@
 pub mod CrashViews
 pub mod Crashes
 pub mod Directories
+pub mod Faults
+pub mod Filing
 pub mod Images
 pub mod Owning
 pub mod Resting

@@ -7,5 +7,7 @@ pub mod Sound
 pub mod Counts
 pub mod Listings
 pub mod Told
+pub mod Files
 pub mod Rule
+pub mod Seen
 pub mod Laws

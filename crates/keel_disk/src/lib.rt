@@ -3,7 +3,8 @@
 //! - `Disk`: the calls of a store on its directory. Their clauses say what each answer leaves, where the device
 //!   tells its state, and what causes each answer, of every device.
 //! - `Device`: a disk on which failures and crashes can be arranged, where it is simulated.
-//! - `Change`, `File`, `Operation`, `Rule`, `Pick`: the calls and the parts of the model.
+//! - `Change`, `File`, `Operation`, `Rule`, `Pick`, `Arranged`: the calls and the parts of the model.
+//! - `read_file`: a whole file, read in parts.
 //! - Laws over the model: what a crash leaves, also inside a call, and what every call keeps.
 //!
 //! The model: names map to files, and files go by number. A file has the bytes that were handed in, a length up to
@@ -18,6 +19,7 @@ mod device;
 mod disk;
 mod error;
 pub mod laws;
+mod reading;
 mod rule;
 mod state;
 
@@ -25,7 +27,8 @@ pub use change::Change;
 pub use device::Device;
 pub use disk::Disk;
 pub use error::{DiskError, ReadError};
-pub use rule::{Pick, Rule};
+pub use reading::read_file;
+pub use rule::{Arranged, Pick, Rule};
 pub use state::{File, Operation};
 
 #[cfg(test)]

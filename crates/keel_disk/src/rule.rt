@@ -29,3 +29,10 @@ pub struct Pick {
     pub garbage: u64,
     pub seed: u64,
 }
+
+/// What a driver arranged on a simulated device, as it was handed in.
+#[derive(Clone, Copy, Debug)]
+pub enum Arranged {
+    Armed(Rule),
+    Crashed(Pick),
+}

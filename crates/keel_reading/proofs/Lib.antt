@@ -4,8 +4,6 @@ pub mod OneReading
 pub mod Running
 pub mod Adding
 pub mod Listed
-pub mod Filing
-pub mod Faults
 pub mod Standing
 pub mod Answering
 pub mod Founding

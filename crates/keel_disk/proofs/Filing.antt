@@ -5,7 +5,7 @@ use Rattle.keel_base.specs.declared.file_name.FileName.{FileName}
 use Rattle.keel_disk.specs.declared.error.ReadError.TheVariants as read
 use Rattle.keel_disk.specs.State.{file_at}
 use Rattle.keel_disk.specs.Told.{Told, TellsRead, TellsSize, TellsAbsent, bytes_of}
-use Rattle.keel_reading.specs.Answers.{content, IsContent, IsNextPart, Continues, Begins}
+use Rattle.keel_disk.specs.Files.{content, IsContent, IsNextPart, Continues, Begins}
 
 abbrev found : List ℕ → Option (List ℕ)
 found bytes = Some bytes
