@@ -9,14 +9,14 @@ use Rattle.keel_base.specs.declared.failure.Fault.{Fault}
 use Rattle.keel_disk.specs.Counts.{FaultCounted, disk_fault}
 use Rattle.keel_disk.specs.Listings.{IsListing}
 use Rattle.keel_disk.specs.Told.{Told, Crashes, TellsListing}
+use Rattle.keel_disk.specs.Seen.{Seen}
 use Rattle.keel_machine.specs.declared.answers.Got.{Got}
 use Rattle.keel_machine.specs.declared.answers.Got.TheVariants as got
 use Rattle.keel_machine.specs.declared.answers.Scanned.{Scanned}
 use Rattle.keel_machine.specs.declared.answers.Scanned.TheVariants as scanned
 use Rattle.keel_base.specs.declared.row.Row.{Row}
 use Rattle.keel_machine.specs.Opening.{continues}
-use Rattle.keel_machine.specs.Outside.{seen}
-use Rattle.keel_machine.specs.States.{State, Seen, Mode, Unopened, Closed, Open as Opened, with_device}
+use Rattle.keel_machine.specs.States.{State, Mode, Unopened, Closed, Open as Opened, with_device}
 use Rattle.keel_machine.specs.Turns.{Turn, Answers, after, Opening, Getting, Scanning, Listing, Crashing}
 use Rattle.keel_machine.specs.Crash.{crash_after, mode_crashed}
 use Rattle.keel_reading.specs.declared.refusal.OpenRefusal.{OpenRefusal}

@@ -3,7 +3,8 @@ use Rattle.std.specs.Prelude.{min}
 use Rattle.std.proofs.Common.{◌≡◌, ℕ, ◌+◌, true, false, List, [], ◌∷◌, Result, Ok, Err, refl, sym, ap, subst, ◌∙◌, inl, inr}
 use Rattle.keel_base.specs.declared.memory.OutOfMemory.{OutOfMemory}
 use Rattle.keel_base.specs.declared.options.Options.{Options}
-use Rattle.keel_machine.specs.States.{State, Seen}
+use Rattle.keel_disk.specs.Seen.{Seen}
+use Rattle.keel_machine.specs.States.{State}
 use Rattle.keel_recovery.specs.Machine.{is_open}
 use Rattle.keel_script.specs.declared.command.Command.{Command}
 use Rattle.keel_script.specs.declared.command.Command.TheVariants.{SetOption, Tick}

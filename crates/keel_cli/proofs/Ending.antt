@@ -2,7 +2,6 @@
 use Rattle.std.proofs.Common.{◌≡◌, ◌≤◌, length, ℕ, Option, Some, None, List, refl, sym, subst, inr}
 use Rattle.std.specs.Io.KnownBytes.{Appends}
 use Rattle.keel_base.specs.Streams.{AppendsPart}
-use Rattle.keel_machine.specs.States.{Seen}
 use Rattle.keel_script.specs.declared.command.Command.{Command}
 use Rattle.keel_cli.specs.declared.answer.Answer.{Answer}
 use Rattle.keel_cli.specs.declared.driver.Driver.{Driver}
@@ -16,6 +15,7 @@ use Rattle.keel_cli.proofs.GoingOn.{LineEnds-from_command}
 use Rattle.keel_cli.specs.Places.{Stands, device_of}
 use Rattle.keel_cli.specs.declared.place.Place.{Place}
 use Rattle.keel_cli.specs.declared.place.Place.TheVariants as place
+use Rattle.keel_disk.specs.Seen.{Seen}
 use Rattle.keel_machine.specs.States.{State}
 use Rattle.keel_cli.specs.Replies.{replies_of, text}
 use Rattle.keel_cli.specs.Runs.{Carries}

@@ -6,7 +6,7 @@ use Rattle.keel_lines.specs.declared.line.LineEnd.TheVariants as line_end
 use Rattle.keel_lines.specs.Calls.{LinesView, IsFinished, PassesLine, PassesInput, IsCut}
 use Rattle.keel_lines.specs.Delivered.{Delivered}
 use Rattle.keel_lines.proofs.Deliveries.{are_first, are_all, long_is_next, whole_within, whole_taken}
-use Rattle.keel_machine.specs.States.{Seen}
+use Rattle.keel_disk.specs.Seen.{Seen}
 use Rattle.keel_cli.specs.declared.lines.LineStop.{LineStop}
 use Rattle.keel_cli.specs.declared.lines.LineStop.TheVariants.{Refused, Unwritten, NoMemory}
 use Rattle.keel_cli.specs.declared.top.End.{End}

@@ -1,7 +1,8 @@
 -- What the device of a run's last state stands for.
 use Rattle.std.proofs.Common.{◌≡◌, ℕ, Option, List, refl, sym, subst, inl, ⊎_elim, arith}
 use Rattle.keel_disk.specs.Told.{Told}
-use Rattle.keel_machine.specs.States.{State, Seen, Footing, Known, Unknown}
+use Rattle.keel_disk.specs.Seen.{Seen}
+use Rattle.keel_machine.specs.States.{State, Footing, Known, Unknown}
 use Rattle.keel_recovery.specs.Machine.{RestsIn, IsCovered, IsCounted, forged_of}
 use Rattle.keel_recovery.proofs.Forging.{footing_stays}
 use Rattle.keel_recovery.proofs.Machine.{turn_keeps, covered_stands, starts_covered}

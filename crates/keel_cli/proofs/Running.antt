@@ -1,6 +1,7 @@
 -- How far a run over lines has come, on each footing.
 use Rattle.std.proofs.Common.{◌≡◌, ℕ, ◌+◌, Option, Some, None, List, [], ◌∷◌, ◌++◌, length, refl}
-use Rattle.keel_machine.specs.States.{Seen, Footing}
+use Rattle.keel_disk.specs.Seen.{Seen}
+use Rattle.keel_machine.specs.States.{Footing}
 use Rattle.keel_recovery.specs.Machine.{IsCovered}
 use Rattle.keel_recovery.proofs.Machine.{turn_keeps}
 use Rattle.keel_cli.specs.declared.lines.LineStop.{LineStop}

@@ -8,7 +8,7 @@ use Rattle.keel_lines.specs.declared.line.LineEnd.TheVariants as line_end
 use Rattle.keel_lines.specs.Calls.{LinesView, GivesLine, IsFinished, IsHeld, PassesLine, PassesInput, IsCut, left}
 use Rattle.keel_lines.specs.Delivered.{Delivered}
 use Rattle.keel_lines.proofs.Deliveries.{begins, adds_line, holds_lines}
-use Rattle.keel_machine.specs.States.{Seen}
+use Rattle.keel_disk.specs.Seen.{Seen}
 use Rattle.keel_cli.specs.declared.lines.LineStop.{LineStop}
 use Rattle.keel_cli.specs.declared.lines.LineStop.TheVariants.{Unwritten}
 use Rattle.keel_cli.specs.declared.top.End.TheVariants.{Completed}

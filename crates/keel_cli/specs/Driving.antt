@@ -1,7 +1,7 @@
 -- Which sessions a driver stands for, and what carrying out a command leaves.
 use Rattle.std.specs.Prelude.{◌≡◌, Option, Some, None, Result, Ok, Err}
-use Rattle.keel_machine.specs.States.{Seen}
 use Rattle.keel_script.specs.declared.command.Command.{Command}
+use Rattle.keel_disk.specs.Seen.{Seen}
 use Rattle.keel_cli.specs.declared.answer.Answer.{Answer}
 use Rattle.keel_cli.specs.declared.driver.Driver.{Driver}
 use Rattle.keel_cli.specs.declared.lines.LineStop.{LineStop}

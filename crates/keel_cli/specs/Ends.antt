@@ -4,7 +4,8 @@ use Rattle.std.specs.Fmt.{decimal}
 use Rattle.std.specs.Io.KnownBytes.{Appends, IsAtEnd}
 use Rattle.keel_base.specs.Counts.{Rose}
 use Rattle.keel_base.specs.Streams.{AppendsPart}
-use Rattle.keel_machine.specs.States.{Seen, Footing}
+use Rattle.keel_disk.specs.Seen.{Seen}
+use Rattle.keel_machine.specs.States.{Footing}
 use Rattle.keel_lines.specs.declared.line.LineEnd.{LineEnd}
 use Rattle.keel_lines.specs.declared.line.LineEnd.TheVariants as line_end
 use Rattle.keel_lines.specs.Lines.{longest_line, longest_input, lines_of, whole_lines}

@@ -3,8 +3,8 @@ use Rattle.std.specs.Prelude.{◌≡◌, ℕ, Bool, true, false, Option, List}
 use Rattle.std.specs.List.{AllByRecursion}
 use Rattle.keel_base.specs.declared.failure.Fault.{Fault}
 use Rattle.keel_disk.specs.Told.{Told}
-use Rattle.keel_machine.specs.Outside.{seen}
-use Rattle.keel_machine.specs.States.{State, Seen}
+use Rattle.keel_disk.specs.Seen.{Seen}
+use Rattle.keel_machine.specs.States.{State}
 use Rattle.keel_machine.specs.declared.answers.Outcome.{Outcome}
 use Rattle.keel_machine.specs.declared.answers.Outcome.TheVariants as outcome
 use Rattle.keel_core.specs.Views.{CoreView, StandsFor}

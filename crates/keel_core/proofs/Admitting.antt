@@ -9,15 +9,15 @@ use Rattle.keel_disk.specs.declared.error.DiskError.{DiskError}
 use Rattle.keel_disk.specs.Counts.{disk_fault}
 use Rattle.keel_disk.specs.Listings.{IsListing}
 use Rattle.keel_disk.specs.Told.{TellsListing}
+use Rattle.keel_disk.specs.Seen.{IsQuiet, Seen}
 use Rattle.keel_machine.specs.declared.answers.Admit.{Admit}
 use Rattle.keel_machine.specs.declared.answers.Admit.TheVariants.{Queued, Spent, Stopped, QueueFull}
 use Rattle.keel_base.specs.declared.failure.Counter.TheVariants.{Sequence, Ticket}
 use Rattle.keel_machine.specs.declared.answers.Outcome.{Outcome}
 use Rattle.keel_machine.specs.declared.answers.Outcome.TheVariants as outcome
 use Rattle.keel_machine.specs.Admission.{ops_of, count_ops, standing_of, batches_of_group, tickets_of_group, seq_with, size_refusal, outcome_kept}
-use Rattle.keel_machine.specs.States.{State, Seen, Story, Footing, point_of}
+use Rattle.keel_machine.specs.States.{State, Story, Footing, point_of}
 use Rattle.keel_machine.specs.Tests.{first_some, when}
-use Rattle.keel_machine.specs.Outside.{IsQuiet}
 use Rattle.keel_machine.specs.Turns.{Event, Answers, after, Admitting, Listing, TakingOutcome}
 use Rattle.keel_core.specs.declared.log.OwnLog.{OwnLog}
 use Rattle.keel_group.specs.Queue.{Ticketed, ticketed, batches_of, tickets_of}

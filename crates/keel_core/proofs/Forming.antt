@@ -6,11 +6,12 @@ use Rattle.keel_base.specs.declared.failure.Failure.{Failure}
 use Rattle.keel_base.specs.declared.op.Batch.{Batch}
 use Rattle.keel_group.specs.Queue.{Ticketed, batches_of, tickets_of}
 use Rattle.keel_group.specs.Forming.{next_size, next_batches, wants_sync}
+use Rattle.keel_disk.specs.Seen.{Calls, Seen}
 use Rattle.keel_machine.specs.declared.steps.WriteStep.{WriteStep}
 use Rattle.keel_machine.specs.declared.steps.WriteStep.TheVariants as step
 use Rattle.keel_machine.specs.Admission.{standing_of, last_seq}
-use Rattle.keel_machine.specs.Outside.{Calls, as_answer}
-use Rattle.keel_machine.specs.States.{State, Seen, Story, Footing, Group, with_device}
+use Rattle.keel_machine.specs.Outside.{as_answer}
+use Rattle.keel_machine.specs.States.{State, Story, Footing, Group, with_device}
 use Rattle.keel_machine.specs.Tests.{first_some, when}
 use Rattle.keel_machine.specs.Turns.{Answers, after, Writing}
 use Rattle.keel_machine.specs.Writing.{change_of, draws, formed, group_plan, ready, write_rest}

@@ -4,10 +4,10 @@ use Rattle.std.proofs.lemmas.List.{append-nil}
 use Rattle.std.proofs.lemmas.List.Elements.{All-nil}
 use Rattle.keel_disk.specs.Plain.{image_read}
 use Rattle.keel_disk.specs.Told.{Told}
+use Rattle.keel_disk.specs.Seen.{IsQuiet, Seen}
 use Rattle.keel_machine.specs.Admission.{ops_of, count_ops}
 use Rattle.keel_machine.specs.Opening.{GoesOnWith, continues, point_found, story_opened}
-use Rattle.keel_machine.specs.Outside.{IsQuiet}
-use Rattle.keel_machine.specs.States.{State, Seen, point_of}
+use Rattle.keel_machine.specs.States.{State, point_of}
 use Rattle.keel_machine.specs.Turns.{Opening, Answers}
 use Rattle.keel_reading.specs.declared.refusal.OpenRefusal.{OpenRefusal}
 use Rattle.keel_reading.specs.declared.replay.Found.{Found}

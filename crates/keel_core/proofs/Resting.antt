@@ -1,12 +1,12 @@
 -- A step that rests.
 use Rattle.std.proofs.Common.{◌≡◌, ℕ, ◌<◌, List, [], ◌∷◌, length, Option, Some, None, refl, sym, ap, subst, ◌∙◌, arith, option_to_list, option_map, ◌==◌, ◌&&◌, ◌^◌, not, nat_le, is_some}
 use Rattle.keel_base.specs.declared.failure.Failure.{Failure}
+use Rattle.keel_disk.specs.Seen.{IsQuiet}
 use Rattle.keel_machine.specs.declared.steps.WriteStep.{WriteStep}
 use Rattle.keel_machine.specs.declared.steps.WriteStep.TheVariants as step
 use Rattle.keel_machine.specs.Admission.{standing_of}
 use Rattle.keel_machine.specs.States.{State, Story, Footing, Unknown}
 use Rattle.keel_machine.specs.Turns.{Answers, after, Writing}
-use Rattle.keel_machine.specs.Outside.{IsQuiet}
 use Rattle.keel_machine.specs.Tests.{first_some, when, differing}
 use Rattle.keel_machine.specs.Writing.{write_rest}
 use Rattle.keel_base.specs.declared.failure.Counter.TheVariants.{FileNumber, JobNumber}

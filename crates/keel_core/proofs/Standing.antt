@@ -13,11 +13,11 @@ use Rattle.keel_disk.specs.declared.error.DiskError.TheVariants as error
 use Rattle.keel_frag.specs.Writing.{records_bytes}
 use Rattle.keel_group.specs.Queue.{Ticketed}
 use Rattle.keel_group.specs.Forming.{next_size}
+use Rattle.keel_disk.specs.Seen.{Calls, Seen}
 use Rattle.keel_machine.specs.declared.answers.Outcome.{Outcome}
 use Rattle.keel_machine.specs.declared.steps.WriteStep.TheVariants as step
 use Rattle.keel_machine.specs.Admission.{ops_of}
-use Rattle.keel_machine.specs.Outside.{Calls}
-use Rattle.keel_machine.specs.States.{State, Seen, Story, Footing, point_of, MakeLog, SyncDirectory, AddRecords, SyncLog}
+use Rattle.keel_machine.specs.States.{State, Story, Footing, point_of, MakeLog, SyncDirectory, AddRecords, SyncLog}
 use Rattle.keel_machine.specs.Writing.{payloads_from}
 use Rattle.keel_machine.specs.WritingAfter.{done_each, failure_of, handed_over, story_published}
 use Rattle.keel_core.specs.declared.log.OwnLog.{OwnLog}

@@ -3,8 +3,9 @@ use Rattle.std.specs.Prelude.{◌≡◌, Bool, true, false, [], length, Some, No
 use Rattle.keel_disk.specs.Plain.{image_read}
 use Rattle.keel_disk.specs.State.{directory_read}
 use Rattle.keel_disk.specs.Told.{Told}
+use Rattle.keel_disk.specs.Seen.{Seen}
 use Rattle.keel_machine.specs.Opening.{continues}
-use Rattle.keel_machine.specs.States.{State, Seen, point_of}
+use Rattle.keel_machine.specs.States.{State, point_of}
 use Rattle.keel_machine.specs.Turns.{Opening, Answers, after}
 use Rattle.keel_reading.specs.declared.replay.Found.{Found}
 use Rattle.keel_reading.specs.Answers.{AreNames}

@@ -6,12 +6,13 @@ use Rattle.keel_base.specs.declared.op.Batch.{Batch}
 use Rattle.keel_base.specs.declared.op.Op.{Op}
 use Rattle.keel_disk.specs.Told.{Told}
 use Rattle.keel_group.specs.Queue.{Ticketed}
+use Rattle.keel_disk.specs.Seen.{Seen}
 use Rattle.keel_machine.specs.declared.answers.Outcome.{Outcome}
 use Rattle.keel_machine.specs.declared.steps.WriteStep.{WriteStep}
 use Rattle.keel_machine.specs.declared.steps.WriteStep.TheVariants as step
 use Rattle.keel_machine.specs.Admission.{ops_of, standing_of}
 use Rattle.keel_machine.specs.States as machine
-use Rattle.keel_machine.specs.States.{State, Seen, Story, Footing, Unknown, Open, Group, Act, MakeLog, SyncDirectory, AddRecords, SyncLog, point_of}
+use Rattle.keel_machine.specs.States.{State, Story, Footing, Unknown, Open, Group, Act, MakeLog, SyncDirectory, AddRecords, SyncLog, point_of}
 use Rattle.keel_machine.specs.Turns.{Event, Answers, after}
 use Rattle.keel_machine.specs.Turns as turns
 use Rattle.keel_machine.specs.Writing.{write_rest}

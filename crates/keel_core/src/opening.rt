@@ -1,6 +1,5 @@
 // Opening a store.
 ghost use Rattle.std.specs.Prelude.{◌≡◌, IfOk, IfErr, Err};
-ghost use Rattle.keel_machine.specs.Outside.{seen};
 ghost use Rattle.keel_machine.specs.States.{State};
 ghost use Rattle.keel_machine.specs.Turns.{Opening, Answers};
 ghost use Rattle.keel_reading.specs.Answers.{RunsOn};
@@ -32,11 +31,11 @@ impl<D: Disk> Core<D> {
     /// fault that it counted.
     pub fn open(alloc: Global, disk: D) -> Result<Core<D>, Refused<D>>
         // A store's story goes on where the device bears it out.
-        ensures ok { (s : State) → s.device ≡ seen (D.told disk) (D.changes disk) (D.faults disk) (D.last_fault disk) (D.is_simulated disk) → Expects s
+        ensures ok { (s : State) → s.device ≡ D.seen disk → Expects s
             → IfOk result (Opens s) }
         // A refusal has its cause in the device, whatever the story.
-        ensures refused { (s : State) → s.device ≡ seen (D.told disk) (D.changes disk) (D.faults disk) (D.last_fault disk) (D.is_simulated disk) → IfErr result (λ e.
-            Answers s (Opening (Err e.refusal)) (seen (D.told e.disk) (D.changes e.disk) (D.faults e.disk) (D.last_fault e.disk) (D.is_simulated e.disk))) }
+        ensures refused { (s : State) → s.device ≡ D.seen disk → IfErr result (λ e.
+            Answers s (Opening (Err e.refusal)) (D.seen e.disk)) }
     {
         let mut disk = disk;
         match read_logs(alloc, &mut disk) {
@@ -55,7 +54,7 @@ impl<D: Disk> Core<D> {
     fn behind(alloc: Global, disk: D, found: Found, mem: Mem) -> Core<D>
         requires runs { RunsOn found }
         requires placed { IsPlaced mem (point_read found.batches) }
-        ensures { result ≡ fresh (seen (D.told disk) (D.changes disk) (D.faults disk) (D.last_fault disk) (D.is_simulated disk)) found }
+        ensures { result ≡ fresh (D.seen disk) found }
     {
         let Found {
             batches,

@@ -41,7 +41,6 @@ pub struct Core<D: Disk> {
 }
 
 impl<D: Disk> Model for Core<D> {
-    ghost use Rattle.keel_machine.specs.Outside.{seen};
     ghost use Rattle.keel_core.specs.Orders.{IsInOrder};
     ghost use Rattle.keel_core.specs.Flights.{flying};
     ghost use Rattle.keel_core.specs.Trails.{shown};
@@ -50,7 +49,7 @@ impl<D: Disk> Model for Core<D> {
     ghost Value = { CoreView };
 
     ghost view = { λ c. record {
-      device = seen (D.told c.disk) (D.changes c.disk) (D.faults c.disk) (D.last_fault c.disk) (D.is_simulated c.disk);
+      device = D.seen c.disk;
       trail = shown c.trail;
       stage = c.log;
       waiting = c.queue.waiting;

@@ -2,12 +2,15 @@
 use Rattle.std.specs.Prelude.{◌≡◌, ℕ, ◌+◌, ◌≤◌, true, List, length, Option, Some, None, Ok}
 use Rattle.keel_base.specs.Counts.{raised}
 use Rattle.keel_base.specs.declared.memory.OutOfMemory.{OutOfMemory}
+use Rattle.keel_disk.specs.declared.rule.Arranged.TheVariants.{Crashed}
+use Rattle.keel_disk.specs.declared.rule.Pick.{Pick}
 use Rattle.keel_disk.specs.Directory.{Named}
 use Rattle.keel_disk.specs.Image.{restarted}
 use Rattle.keel_disk.specs.Plain.{PlainImage, image_read}
 use Rattle.keel_disk.specs.Told.{Told, Crashes, CrashedTo}
 use Rattle.keel_reading.specs.Reading.{Reads}
-use Rattle.keel_machine.specs.States.{State, Seen, Story, Footing, Known, Unknown, Mode, Unopened, Closed, Open, cut_story, point_of}
+use Rattle.keel_disk.specs.Seen.{Seen, IsArranged}
+use Rattle.keel_machine.specs.States.{State, Story, Footing, Known, Unknown, Mode, Unopened, Closed, Open, cut_story, point_of}
 
 -- the device is an image of what it was, in which no fragment is good by chance
 pub record LeavesPlain (before after : Told) : Type 0 where
@@ -41,14 +44,11 @@ Leaves Known mode story (Some before) None (Some after) = LeavesForged before af
 Leaves Unknown mode story before None after = Crashes {E = OutOfMemory} before (Ok true) after
 Leaves _ mode story _ _ _ = ⊥
 
--- a crash is had on a simulated device alone
-pub record CrashAnswers (s : State) (kept : Option ℕ) (device : Seen) : Type 0 where
+-- A crash is had on a simulated device alone, and is the one that was handed in.
+pub record CrashAnswers (s : State) (pick : Pick) (kept : Option ℕ) (device : Seen) : Type 0 where
   pub simulated : s.device.simulated ≡ true
   pub leaves : Leaves s.footing s.mode s.story s.device.told kept device.told
-  pub count : device.changes ≡ s.device.changes
-  pub faults : device.faults ≡ s.device.faults
-  pub last_fault : device.last_fault ≡ s.device.last_fault
-  pub same : device.simulated ≡ s.device.simulated
+  pub rest : IsArranged {E = OutOfMemory} (Crashed pick) s.device (Ok true) device
 
 abbrev pub mode_crashed : Mode → Mode
 mode_crashed Unopened = Unopened

@@ -3,10 +3,11 @@ use Rattle.std.specs.Prelude.{◌≡◌, ◌⊎◌, ℕ, Option, Some}
 use Rattle.keel_base.specs.Counts.{raised}
 use Rattle.keel_base.specs.declared.failure.Failure.{Failure}
 use Rattle.keel_base.specs.declared.op.Batch.{Batch}
+use Rattle.keel_disk.specs.Seen.{Seen}
 use Rattle.keel_machine.specs.declared.answers.Admit.TheVariants.{Queued}
 use Rattle.keel_machine.specs.declared.steps.WriteStep.{WriteStep}
 use Rattle.keel_machine.specs.Admission.{standing, AdmitAnswers}
-use Rattle.keel_machine.specs.States.{State, Seen}
+use Rattle.keel_machine.specs.States.{State}
 use Rattle.keel_machine.specs.WritingAfter.{WriteAnswers}
 
 -- A write step makes one changing call of the device at most.

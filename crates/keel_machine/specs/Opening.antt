@@ -6,8 +6,8 @@ use Rattle.keel_reading.specs.declared.replay.Found.{Found}
 use Rattle.keel_reading.specs.Answers.{fault_in, NamesOther, ReadAnswers, RunsOn}
 use Rattle.keel_reading.specs.Logs.{ops_of}
 use Rattle.keel_reading.specs.Replays.{all_numbered}
-use Rattle.keel_machine.specs.Outside.{IsQuiet}
-use Rattle.keel_machine.specs.States.{State, Seen, Story, Footing, Known, Mode, Open, Closed, new_story, point_of}
+use Rattle.keel_disk.specs.Seen.{IsQuiet, Seen}
+use Rattle.keel_machine.specs.States.{State, Story, Footing, Known, Mode, Open, Closed, new_story, point_of}
 
 -- the point that the batches found lead to
 abbrev pub point_found : Found → Point

@@ -1,21 +1,12 @@
 -- The machine's states: plain data, one record for each part.
 use Rattle.std.specs.Prelude.{ℕ, Bool, List, [], ◌++◌, take, Option}
 use Rattle.keel_base.specs.Points.{Point, fold_batches}
-use Rattle.keel_base.specs.declared.failure.Fault.{Fault}
 use Rattle.keel_base.specs.declared.failure.Failure.{Failure}
 use Rattle.keel_base.specs.declared.op.Batch.{Batch}
 use Rattle.keel_base.specs.declared.op.Op.{Op}
-use Rattle.keel_disk.specs.Told.{Told}
+use Rattle.keel_disk.specs.Seen.{Seen}
 use Rattle.keel_group.specs.Queue.{Ticketed}
 use Rattle.keel_machine.specs.declared.answers.Outcome.{Outcome}
-
--- what a device shows, and whether failures and crashes can be arranged on it
-pub record Seen : Type 0 where
-  pub told : Option Told
-  pub changes : ℕ
-  pub faults : ℕ
-  pub last_fault : Option Fault
-  pub simulated : Bool
 
 -- Whether the device is known to bear out the story: it tells its state, was at rest when the run began, and no crash
 -- left a forged image since.

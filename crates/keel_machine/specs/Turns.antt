@@ -3,11 +3,13 @@ use Rattle.std.specs.Prelude.{◌≡◌, ℕ, List, [], ◌∷◌, None, Option,
 use Rattle.keel_base.specs.declared.op.Batch.{Batch}
 use Rattle.keel_base.specs.declared.listing.Entry.{Entry}
 use Rattle.keel_disk.specs.declared.error.DiskError.{DiskError}
+use Rattle.keel_disk.specs.declared.rule.Pick.{Pick}
 use Rattle.keel_disk.specs.Counts.{disk_fault}
 use Rattle.keel_disk.specs.Listings.{IsListing}
 use Rattle.keel_disk.specs.Told.{TellsListing}
 use Rattle.keel_reading.specs.declared.refusal.OpenRefusal.{OpenRefusal}
 use Rattle.keel_reading.specs.declared.replay.Found.{Found}
+use Rattle.keel_disk.specs.Seen.{IsQuiet, Seen}
 use Rattle.keel_machine.specs.declared.answers.Admit.{Admit}
 use Rattle.keel_machine.specs.declared.answers.Got.{Got}
 use Rattle.keel_machine.specs.declared.answers.Outcome.{Outcome}
@@ -16,9 +18,8 @@ use Rattle.keel_machine.specs.declared.steps.WriteStep.{WriteStep}
 use Rattle.keel_machine.specs.Admission.{AdmitAnswers, admit_after, outcome_of, without_outcome}
 use Rattle.keel_machine.specs.Crash.{CrashAnswers, crash_after}
 use Rattle.keel_machine.specs.Opening.{OpenAnswers, open_after, finished}
-use Rattle.keel_machine.specs.Outside.{IsQuiet}
 use Rattle.keel_machine.specs.Reads.{GetAnswers, ScanAnswers}
-use Rattle.keel_machine.specs.States.{State, Seen, with_device}
+use Rattle.keel_machine.specs.States.{State, with_device}
 use Rattle.keel_machine.specs.WritingAfter.{WriteAnswers, write_after}
 
 -- a call of the machine with its answer
@@ -30,8 +31,8 @@ pub data Event : Type 0 where
   Getting : List ℕ → Got → Event
   Scanning : List ℕ → List ℕ → Scanned → Event
   Listing : Result (List Entry) DiskError → Event
-  -- what is left of the story, where anything is known of it
-  Crashing : Option ℕ → Event
+  -- what was picked, and what is left of the story, where anything is known of it
+  Crashing : Pick → Option ℕ → Event
   Finishing : Event
 
 -- the files of the directory with their sizes, in the order of their printed names
@@ -49,7 +50,7 @@ Answers s (TakingOutcome ticket outcome) device = (outcome ≡ outcome_of s tick
 Answers s (Getting key got) device = GetAnswers s key got × IsQuiet s.device None device
 Answers s (Scanning from to scanned) device = ScanAnswers s from to scanned × IsQuiet s.device None device
 Answers s (Listing answer) device = ListAnswers s answer device
-Answers s (Crashing kept) device = CrashAnswers s kept device
+Answers s (Crashing pick kept) device = CrashAnswers s pick kept device
 Answers s Finishing device = device ≡ s.device
 
 -- the state behind the call, but for the device
@@ -61,7 +62,7 @@ behind s (TakingOutcome ticket outcome) = without_outcome ticket s
 behind s (Getting key got) = s
 behind s (Scanning from to scanned) = s
 behind s (Listing answer) = s
-behind s (Crashing kept) = crash_after s kept
+behind s (Crashing pick kept) = crash_after s kept
 behind s Finishing = finished s
 
 -- the state behind the call, with what the device then shows

@@ -5,13 +5,14 @@ use Rattle.keel_base.specs.declared.failure.Fault.{Fault}
 use Rattle.keel_base.specs.declared.failure.Failure.{Failure}
 use Rattle.keel_base.specs.declared.failure.Reason.TheVariants.{Wal}
 use Rattle.keel_base.specs.declared.op.Op.{Op}
+use Rattle.keel_disk.specs.Seen.{Calls, IsQuiet, Seen}
 use Rattle.keel_machine.specs.declared.answers.Outcome.{Outcome}
 use Rattle.keel_machine.specs.declared.answers.Outcome.TheVariants as outcome
 use Rattle.keel_machine.specs.declared.steps.WriteStep.{WriteStep}
 use Rattle.keel_machine.specs.declared.steps.WriteStep.TheVariants.{Moved, Done, Failed, Turned, OutOfMemory}
 use Rattle.keel_machine.specs.Admission.{ops_of, last_seq}
-use Rattle.keel_machine.specs.Outside.{Calls, IsQuiet, as_answer}
-use Rattle.keel_machine.specs.States.{State, Seen, Story, OwnLog, Group, Act, MakeLog, SyncDirectory, AddRecords, SyncLog}
+use Rattle.keel_machine.specs.Outside.{as_answer}
+use Rattle.keel_machine.specs.States.{State, Story, OwnLog, Group, Act, MakeLog, SyncDirectory, AddRecords, SyncLog}
 use Rattle.keel_machine.specs.Writing.{ready, write_rest, call_of, change_of, group_bytes}
 
 -- ---- parts of the next state

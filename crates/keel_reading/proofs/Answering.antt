@@ -15,7 +15,8 @@ use Rattle.keel_reading.specs.declared.replay.Replay.{Replay}
 use Rattle.keel_reading.specs.Logs.{Numbered, LogsSay}
 use Rattle.keel_reading.specs.Reading.{AreLogsBelow, HasBadLog}
 use Rattle.keel_reading.specs.Replays.{all_numbered, RefusesLog, Finishes, IsGapWhere}
-use Rattle.keel_reading.specs.Answers.{IsContent, AreLogs, NoLogFrom, IsNextLog, IsBehindALog, ReadAnswers}
+use Rattle.keel_disk.specs.Files.{IsContent}
+use Rattle.keel_reading.specs.Answers.{AreLogs, NoLogFrom, IsNextLog, IsBehindALog, ReadAnswers}
 use Rattle.keel_reading.proofs.Standing.{ReadSoFar, below_bound, bad_log, has_gap}
 
 pub log_refused : (told : Option Told) (listing : List Entry) (least : ℕ) (log : ListedLog) (bytes : List ℕ) (batches : List Numbered) (gap : Option Gap) (e : OpenRefusal)

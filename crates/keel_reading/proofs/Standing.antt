@@ -18,7 +18,8 @@ use Rattle.keel_reading.specs.declared.replay.Replay.{Replay}
 use Rattle.keel_reading.specs.Logs.{Numbered, AreBatches, Says, log_bytes, LogsSay, RunOn, count_ops}
 use Rattle.keel_reading.specs.Reading.{IsLogBelow, AreLogsBelow, BreaksAt, HasBadLog, HasGap}
 use Rattle.keel_reading.specs.Replays.{all_numbered, RunsFrom, AddsLog, IsGapOf, IsGapWhere, IsRunTo}
-use Rattle.keel_reading.specs.Answers.{content, IsContent, IsLog, AreLogs, NoLogFrom, IsNextLog, AreNames, IsBehindALog}
+use Rattle.keel_disk.specs.Files.{content, IsContent}
+use Rattle.keel_reading.specs.Answers.{IsLog, AreLogs, NoLogFrom, IsNextLog, AreNames, IsBehindALog}
 use Rattle.keel_reading.proofs.Listed.{listed_log, listed_name}
 use Rattle.keel_reading.proofs.OneReading.{one_absent}
 use Rattle.keel_reading.proofs.Running.{count-append, RunOn-append, AreBatches-append, no_gap_is, gap_is}

@@ -1,5 +1,5 @@
 -- What the reading of a directory answers, and why.
-use Rattle.std.specs.Prelude.{◌≡◌, ◌⊎◌, ℕ, ◌+◌, ◌<◌, ◌≤◌, ◌^◌, List, [], ◌∷◌, ◌++◌, Option, Some, None, Result, Ok, Err, unwrap_or}
+use Rattle.std.specs.Prelude.{◌≡◌, ◌⊎◌, ℕ, ◌+◌, ◌<◌, ◌≤◌, ◌^◌, List, [], ◌∷◌, ◌++◌, Option, Some, None, Result, Ok, Err}
 use Rattle.keel_base.specs.declared.failure.Fault.{Fault}
 use Rattle.keel_base.specs.declared.file_name.FileName.{FileName}
 use Rattle.keel_base.specs.declared.file_name.FileName.TheVariants.{Log}
@@ -9,7 +9,7 @@ use Rattle.keel_disk.specs.Directory.{Named, find}
 use Rattle.keel_disk.specs.Listings.{IsListing, size_listed}
 use Rattle.keel_disk.specs.Plain.{image_read}
 use Rattle.keel_disk.specs.State.{directory_read}
-use Rattle.keel_disk.specs.Told.{Told, TellsListing, bytes_of}
+use Rattle.keel_disk.specs.Told.{Told, TellsListing}
 use Rattle.keel_reading.specs.declared.refusal.OpenRefusal.{OpenRefusal}
 use Rattle.keel_reading.specs.declared.refusal.OpenRefusal.TheVariants as refusal
 use Rattle.keel_reading.specs.declared.directory.ListedLog.{ListedLog}

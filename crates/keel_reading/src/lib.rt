@@ -14,7 +14,6 @@
 #![tactic(auto)]
 
 mod directory;
-mod file;
 pub mod laws;
 mod numbering;
 mod opening;

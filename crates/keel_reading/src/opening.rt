@@ -1,16 +1,15 @@
 // Reading the logs of a directory.
-ghost use Rattle.std.specs.Prelude.{◌≡◌, IfOk};
-ghost use Rattle.keel_disk.specs.Counts.{FaultCounted};
+ghost use Rattle.std.specs.Prelude.{IfOk};
 ghost use Rattle.keel_disk.specs.Listings.{IsListing};
+ghost use Rattle.keel_disk.specs.Seen.{IsQuiet};
 ghost use Rattle.keel_disk.specs.Told.{TellsListing};
 ghost use Rattle.keel_reading.specs.Answers.{fault_in, AreLogs, NamesOther, ReadAnswers, RunsOn};
 
 use crate::directory::{first_other, next_log};
-use crate::file::read_file;
 use crate::refusal::OpenRefusal;
 use crate::replay::{Found, Replay};
 use keel_base::{FileName, Listing};
-use keel_disk::Disk;
+use keel_disk::{Disk, read_file};
 use std::alloc::Global;
 
 /// Reads the logs of a listing in order of their numbers.
@@ -19,16 +18,13 @@ fn read_listed<D: Disk>(
     disk: &mut D,
     listing: &Listing,
 ) -> Result<Found, OpenRefusal>
-    requires tells { TellsListing (D.told disk.old) listing.now }
+    requires tells { TellsListing (D.seen disk.old).told listing.now }
     requires order { IsListing listing.now }
     requires logs { AreLogs listing.now }
-    ensures answers { ReadAnswers (D.told disk.old) result }
-    ensures other { NamesOther (D.told disk.old) result }
+    ensures answers { ReadAnswers (D.seen disk.old).told result }
+    ensures other { NamesOther (D.seen disk.old).told result }
     ensures runs_on { IfOk result RunsOn }
-    ensures same { D.told disk.new ≡ D.told disk.old }
-    ensures count { D.changes disk.new ≡ D.changes disk.old }
-    ensures cause { FaultCounted (D.faults disk.old) (D.faults disk.new) (D.last_fault disk.new) (fault_in result) }
-    ensures simulated { D.is_simulated disk.new ≡ D.is_simulated disk.old }
+    ensures quiet { IsQuiet (D.seen disk.old) (fault_in result) (D.seen disk.new) }
 {
     let mut replay = Replay::new(alloc);
     let mut least = 1;
@@ -46,16 +42,13 @@ fn read_listed<D: Disk>(
 /// A log that vanishes between the listing and its read counts as empty.
 pub fn read_logs<D: Disk>(alloc: Global, disk: &mut D) -> Result<Found, OpenRefusal>
     // The cause of each answer, where the device tells its directory.
-    ensures answers { ReadAnswers (D.told disk.old) result }
+    ensures answers { ReadAnswers (D.seen disk.old).told result }
     // NoCurrent names the first file of the listing that isn't a log.
-    ensures other { NamesOther (D.told disk.old) result }
+    ensures other { NamesOther (D.seen disk.old).told result }
     // What is found is numbered on from 1, whatever the device tells.
     ensures runs_on { IfOk result RunsOn }
-    ensures same { D.told disk.new ≡ D.told disk.old }
-    ensures count { D.changes disk.new ≡ D.changes disk.old }
     // Device comes only where the device counted that fault, as the last one.
-    ensures cause { FaultCounted (D.faults disk.old) (D.faults disk.new) (D.last_fault disk.new) (fault_in result) }
-    ensures simulated { D.is_simulated disk.new ≡ D.is_simulated disk.old }
+    ensures quiet { IsQuiet (D.seen disk.old) (fault_in result) (D.seen disk.new) }
 {
     let listing = disk.list(alloc)?;
     match first_other(listing.as_slice()) {

@@ -5,7 +5,8 @@ use Rattle.keel_base.specs.declared.failure.Fault.{Fault}
 use Rattle.keel_base.specs.declared.op.Batch.{Batch}
 use Rattle.keel_disk.specs.State.{State as Disk}
 use Rattle.keel_disk.specs.Step.{DiskStep}
-use Rattle.keel_machine.specs.States.{State, Seen, Footing, Mode, Story, OwnLog, Group, Act, MakeLog, SyncDirectory, AddRecords, SyncLog, Writing}
+use Rattle.keel_disk.specs.Seen.{Seen}
+use Rattle.keel_machine.specs.States.{State, Footing, Mode, Story, OwnLog, Group, Act, MakeLog, SyncDirectory, AddRecords, SyncLog, Writing}
 use Rattle.keel_machine.specs.Writing.{change_of}
 use Rattle.keel_machine.specs.WritingAfter.{first_done, group_done, first_failed, group_failed}
 use Rattle.keel_recovery.specs.Machine.{calls_from_append, AwaitsAppend, AwaitsSync, IsCoveredIn, IsOpenCovered}

@@ -9,8 +9,10 @@ use Rattle.keel_disk.specs.Plain.{PlainImage, image_read}
 use Rattle.keel_disk.specs.State.{State as Disk}
 use Rattle.keel_disk.specs.Sound.{IsOneToOne, IsAtRest}
 use Rattle.keel_disk.specs.Told.{Told, Crashes, CrashedTo}
+use Rattle.keel_disk.specs.declared.rule.Pick.{Pick}
+use Rattle.keel_disk.specs.Seen.{Seen}
 use Rattle.keel_machine.specs.Crash.{LeavesPlain, IsPrefix, LeavesOf, Leaves, CrashAnswers, mode_crashed, crash_after}
-use Rattle.keel_machine.specs.States.{State, Seen, Footing, Known, Unknown, Mode, Unopened, Closed, Open, Story, cut_story, point_of, with_device}
+use Rattle.keel_machine.specs.States.{State, Footing, Known, Unknown, Mode, Unopened, Closed, Open, Story, cut_story, point_of, with_device}
 use Rattle.keel_reading.specs.Reading.{Reads}
 use Rattle.keel_recovery.specs.Machine.{stage_of, IsLeft, HoldsBy, IsCoveredBy, IsCovered, CrashTurns}
 use Rattle.keel_recovery.specs.Standing.{ReadsIn, Stands}
@@ -60,8 +62,8 @@ crash_by Known None None (Some count) s device footing left h = absurd left
 crash_by Known (Some before) None (Some count) s device footing left h = absurd left
 crash_by Unknown before after (Some count) s device footing left h = absurd left
 
-pub crash_keeps : (s : State) (kept : Option ℕ) (device : Seen) → CrashAnswers s kept device → IsCovered s → IsCovered (with_device device (crash_after s kept))
-crash_keeps s kept device a h = crash_by s.footing s.device.told device.told kept s device refl a.leaves h
+pub crash_keeps : (s : State) (pick : Pick) (kept : Option ℕ) (device : Seen) → CrashAnswers s pick kept device → IsCovered s → IsCovered (with_device device (crash_after s kept))
+crash_keeps s pick kept device a h = crash_by s.footing s.device.told device.told kept s device refl a.leaves h
 
 -- ---- every crash is a turn
 
@@ -108,15 +110,8 @@ left_by Known (Some before) None s h crash = cc
 left_by Known (Some before) (Some after) s h crash = known_left s before after h crash
 
 pub crash_turns : CrashTurns
-crash_turns s device h drops =
+crash_turns s pick device h drops =
     let left = left_by s.footing s.device.told device.told s h drops.crash in (
       left.0,
-      record {
-        simulated = drops.simulated;
-        leaves = left.1;
-        count = drops.count;
-        faults = drops.faults;
-        last_fault = drops.last_fault;
-        same = drops.same;
-      },
+      record { simulated = drops.simulated; leaves = left.1; rest = drops.rest },
     )

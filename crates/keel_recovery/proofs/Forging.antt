@@ -6,6 +6,8 @@ use Rattle.keel_base.specs.declared.memory.OutOfMemory.{OutOfMemory}
 use Rattle.keel_base.specs.declared.op.Batch.{Batch}
 use Rattle.keel_disk.specs.declared.change.Change.{Change}
 use Rattle.keel_disk.specs.Told.{Told, Changes, Crashes}
+use Rattle.keel_disk.specs.declared.rule.Pick.{Pick}
+use Rattle.keel_disk.specs.Seen.{Seen}
 use Rattle.keel_machine.specs.declared.answers.Admit.{Admit}
 use Rattle.keel_machine.specs.declared.answers.Admit.TheVariants as admit
 use Rattle.keel_machine.specs.declared.steps.WriteStep.{WriteStep}
@@ -13,7 +15,7 @@ use Rattle.keel_machine.specs.declared.steps.WriteStep.TheVariants as step
 use Rattle.keel_machine.specs.Admission.{admit_after}
 use Rattle.keel_machine.specs.Crash.{Leaves, CrashAnswers, crash_after}
 use Rattle.keel_machine.specs.Outside.{as_answer}
-use Rattle.keel_machine.specs.States.{State, Seen, Footing, Known, Unknown, Mode, Story, Group, Act, with_device}
+use Rattle.keel_machine.specs.States.{State, Footing, Known, Unknown, Mode, Story, Group, Act, with_device}
 use Rattle.keel_machine.specs.Turns.{Event, Opening, Admitting, Writing, TakingOutcome, Getting, Scanning, Listing, Crashing, Finishing, Answers, after}
 use Rattle.keel_machine.specs.Writing.{ready, change_of}
 use Rattle.keel_machine.specs.WritingAfter.{WriteAnswers, MadeCall, call_done, call_failed, write_after}
@@ -44,7 +46,7 @@ call_keeps change (Some before) (Some fault) (Some behind) h = h.2
 made_keeps : (first : ℕ) (s next : State) (held : Option ℕ) (group : Group) (act : Act) (later : List Act) (failed : Option Fault) → MadeCall s held group act later failed next.device
     → next.footing ≡ s.footing → IsCounted first s → IsCounted first next
 made_keeps first s next held group act later failed made footing h =
-    stays first s next (call_keeps (change_of (ready s) group act) s.device.told failed next.device.told made.calls.leaves) footing h
+    stays first s next (call_keeps (change_of (ready s) group act) s.device.told failed next.device.told made.calls.step) footing h
 
 done_footing : (s : State) → (call_done s).footing ≡ s.footing
 done_footing s = footing_done (ready s).jobs.write.running (ready s) ∙ footing_started_or s.jobs.write.running s
@@ -95,10 +97,10 @@ prefix_keeps Known m story count None (Some behind) left = absurd left
 prefix_keeps Known m story count (Some before) None left = absurd left
 prefix_keeps Known m story count (Some before) (Some behind) left = left.0.forged
 
-crash_keeps : (first : ℕ) (s : State) (kept : Option ℕ) (device : Seen) → first < 2 ^ 64 - 1 → CrashAnswers s kept device → IsCounted first s → IsCounted first (with_device device (crash_after s kept))
-crash_keeps first s (Some count) device bound a h =
+crash_keeps : (first : ℕ) (s : State) (pick : Pick) (kept : Option ℕ) (device : Seen) → first < 2 ^ 64 - 1 → CrashAnswers s pick kept device → IsCounted first s → IsCounted first (with_device device (crash_after s kept))
+crash_keeps first s pick (Some count) device bound a h =
     stays first s (with_device device (crash_after s (Some count))) (prefix_keeps s.footing s.mode s.story count s.device.told device.told a.leaves) refl h
-crash_keeps first s None device bound a h =
+crash_keeps first s pick None device bound a h =
     let risen : first < forged_of device.told = lost_risen s.footing s.mode s.story first s.device.told device.told bound h.least h.risen a.leaves in
     record { least = omega (arith, risen); risen = inr risen }
 
@@ -121,7 +123,7 @@ answer_keeps first s (TakingOutcome ticket outcome) device bound a h = same_told
 answer_keeps first s (Getting key got) device bound a h = same_told first s _ a.1.same refl h
 answer_keeps first s (Scanning from to scanned) device bound a h = same_told first s _ a.1.same refl h
 answer_keeps first s (Listing answer) device bound a h = same_told first s _ a.quiet.same refl h
-answer_keeps first s (Crashing kept) device bound a h = crash_keeps first s kept device bound a h
+answer_keeps first s (Crashing pick kept) device bound a h = crash_keeps first s pick kept device bound a h
 answer_keeps first s Finishing device bound a h = same_told first s _ (ap (λ (d : Seen). d.told) a) refl h
 
 pub footing_stays : FootingStays

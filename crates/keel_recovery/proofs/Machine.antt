@@ -16,6 +16,7 @@ use Rattle.keel_disk.specs.Step.{DiskStep}
 use Rattle.keel_disk.specs.Plain.{image_read}
 use Rattle.keel_disk.specs.Sound.{IsAtRest}
 use Rattle.keel_disk.specs.Told.{Told, Changes}
+use Rattle.keel_disk.specs.Seen.{Seen}
 use Rattle.keel_machine.specs.declared.answers.Admit.{Admit}
 use Rattle.keel_machine.specs.declared.answers.Admit.TheVariants as admit
 use Rattle.keel_machine.specs.declared.steps.WriteStep.{WriteStep}
@@ -25,7 +26,7 @@ use Rattle.keel_machine.specs.Admission.{AdmitAnswers, size_refusal, refusal, se
 use Rattle.keel_machine.specs.Opening.{point_found, continues, GoesOnWith, OpenAnswers, story_opened, opened}
 use Rattle.keel_machine.specs.Outside.{as_answer}
 use Rattle.keel_group.specs.Queue.{Ticketed}
-use Rattle.keel_machine.specs.States.{State, Seen, Footing, Known, Unknown, Mode, Unopened, Closed, Open, Story, Group, Act, MakeLog, SyncDirectory, AddRecords, SyncLog, new_story, point_of, with_device}
+use Rattle.keel_machine.specs.States.{State, Footing, Known, Unknown, Mode, Unopened, Closed, Open, Story, Group, Act, MakeLog, SyncDirectory, AddRecords, SyncLog, new_story, point_of, with_device}
 use Rattle.keel_machine.specs.Tests.{when}
 use Rattle.keel_machine.specs.Turns.{Event, Opening, Admitting, Writing, TakingOutcome, Getting, Scanning, Listing, Crashing, Finishing, Answers, after}
 use Rattle.keel_machine.specs.Writing.{started, started_or, ready, write_rest, change_of}
@@ -207,7 +208,7 @@ made_keeps : (s next : State) (held : Option ℕ) (group : Group) (act : Act) (l
 made_keeps s next held group act later failed made is mode footing keep h =
     let at_call : IsCoveredBy s.footing Open s.device.told (ready s) =
     kept_by s.footing s.device.told s (ready s) (λ state. ready_kept state s held made.makes.no_rest) (covered_open s is h) in
-    open_covered s next is mode footing (called_by s.footing s.device.told next.device.told (change_of (ready s) group act) failed (ready s) next keep made.calls.leaves at_call)
+    open_covered s next is mode footing (called_by s.footing s.device.told next.device.told (change_of (ready s) group act) failed (ready s) next keep made.calls.step at_call)
 
 -- a log that is made has a name of the store
 names_log : (s : State) (held : Option ℕ) (group : Group) (act : Act) (later : List Act) (failed : Option Fault) (device : Seen) → MadeCall s held group act later failed device
@@ -358,7 +359,7 @@ answer_keeps s (TakingOutcome ticket outcome) device may a h =
 answer_keeps s (Getting key got) device may a h = same_keeps s device a.1.same h
 answer_keeps s (Scanning from to scanned) device may a h = same_keeps s device a.1.same h
 answer_keeps s (Listing answer) device may a h = same_keeps s device a.quiet.same h
-answer_keeps s (Crashing kept) device may a h = crash_keeps s kept device a h
+answer_keeps s (Crashing pick kept) device may a h = crash_keeps s pick kept device a h
 answer_keeps s Finishing device may a h = absurd may
 
 pub turn_keeps : TurnKeeps

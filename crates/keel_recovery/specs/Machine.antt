@@ -13,11 +13,14 @@ use Rattle.keel_reading.specs.declared.refusal.OpenRefusal.{OpenRefusal}
 use Rattle.keel_reading.specs.declared.refusal.OpenRefusal.TheVariants as refusal
 use Rattle.keel_reading.specs.Answers.{AreNames}
 use Rattle.keel_reading.specs.Reading.{Reads}
+use Rattle.keel_disk.specs.declared.rule.Arranged.TheVariants.{Crashed}
+use Rattle.keel_disk.specs.declared.rule.Pick.{Pick}
+use Rattle.keel_disk.specs.Seen.{Seen, IsArranged}
 use Rattle.keel_machine.specs.Admission.{ops_of, batches_of_group}
 use Rattle.keel_machine.specs.Crash.{CrashAnswers}
 use Rattle.keel_machine.specs.Opening.{OpenAnswers, continues}
 use Rattle.keel_group.specs.Queue.{Ticketed}
-use Rattle.keel_machine.specs.States.{State, Seen, Footing, Known, Unknown, Mode, Unopened, Closed, Open, Story, OwnLog, Group, Act, MakeLog, SyncDirectory, AddRecords, SyncLog, point_of}
+use Rattle.keel_machine.specs.States.{State, Footing, Known, Unknown, Mode, Unopened, Closed, Open, Story, OwnLog, Group, Act, MakeLog, SyncDirectory, AddRecords, SyncLog, point_of}
 use Rattle.keel_machine.specs.Turns.{Event, Opening, Listing, Crashing, Finishing, Turn}
 use Rattle.keel_machine.specs.Writing.{ready, change_of}
 use Rattle.keel_machine.specs.WritingAfter.{MadeCall, call_done, call_failed, failure_of}
@@ -36,7 +39,7 @@ is_open Open = true
 abbrev pub MayCall : State → Event → Type 0
 MayCall s (Opening answer) = is_open s.mode ≡ false
 MayCall s (Listing answer) = Unit {0}
-MayCall s (Crashing kept) = Unit {0}
+MayCall s (Crashing pick kept) = Unit {0}
 MayCall s Finishing = ⊥
 MayCall s event = is_open s.mode ≡ true
 
@@ -164,20 +167,17 @@ CoveredStands = (s : State) → s.footing ≡ Known → s.mode ≢ Unopened → 
 abbrev pub StartsCovered : Type 0
 StartsCovered = (s : State) → s.mode ≡ Unopened → (s.footing ≡ Known → RestsIn s.device.told) → IsCovered s
 
--- a crash of a simulated device, which leaves the counts
-pub record Drops (s : State) (device : Seen) : Type 0 where
+-- a crash of a simulated device, as it was picked
+pub record Drops (s : State) (pick : Pick) (device : Seen) : Type 0 where
   pub simulated : s.device.simulated ≡ true
   pub crash : Crashes {E = OutOfMemory} s.device.told (Ok true) device.told
-  pub count : device.changes ≡ s.device.changes
-  pub faults : device.faults ≡ s.device.faults
-  pub last_fault : device.last_fault ≡ s.device.last_fault
-  pub same : device.simulated ≡ s.device.simulated
+  pub rest : IsArranged {E = OutOfMemory} (Crashed pick) s.device (Ok true) device
 
 -- Whatever a crash leaves of a covered device is a turn of the machine: of a known one, so many batches of the story, and
 -- all that must not be lost, unless the image is forged.
 abbrev pub CrashTurns : Type 0
 CrashTurns =
-    (s : State) (device : Seen) → IsCovered s → Drops s device → (kept : Option ℕ) × CrashAnswers s kept device
+    (s : State) (pick : Pick) (device : Seen) → IsCovered s → Drops s pick device → (kept : Option ℕ) × CrashAnswers s pick kept device
 
 -- where the story goes on, the directory reads as the point that it leads to
 pub record ReadsOn (told : Told) (story : Story) : Type 0 where

@@ -1,5 +1,5 @@
 -- How a simulated device answers each call, and what it is then.
-use Rattle.std.specs.Prelude.{◌≡◌, ◌⊎◌, ℕ, ◌+◌, ◌-◌, Bool, false, nat_lt, List, [], ◌∷◌, ◌++◌, length, Option, Some, None, Result, Ok, Err, MatchOption, if◌then◌else◌, unwrap_or, option_map}
+use Rattle.std.specs.Prelude.{◌≡◌, ◌⊎◌, ℕ, ◌+◌, ◌-◌, Bool, true, false, nat_lt, List, [], ◌∷◌, ◌++◌, length, Option, Some, None, Result, Ok, Err, MatchOption, if◌then◌else◌, unwrap_or, option_map}
 use Rattle.keel_base.specs.Counts.{raised}
 use Rattle.keel_base.specs.declared.failure.Call.{Call}
 use Rattle.keel_base.specs.declared.failure.Call.TheVariants as call
@@ -12,10 +12,12 @@ use Rattle.keel_disk.specs.declared.error.DiskError.{DiskError}
 use Rattle.keel_disk.specs.declared.error.DiskError.TheVariants as disk_error
 use Rattle.keel_disk.specs.declared.error.ReadError.{ReadError}
 use Rattle.keel_disk.specs.declared.error.ReadError.TheVariants as read_error
+use Rattle.keel_disk.specs.declared.rule.Arranged.TheVariants.{Armed as ArmedBy, Crashed}
 use Rattle.keel_disk.specs.declared.rule.Pick.{Pick}
 use Rattle.keel_disk.specs.declared.rule.Rule.{Rule}
 use Rattle.keel_disk.specs.declared.rule.Rule.TheVariants.{Fail, Capacity}
 use Rattle.keel_disk.specs.Image.{restarted}
+use Rattle.keel_disk.specs.Seen.{Seen}
 use Rattle.keel_disk.specs.Step.{done, failed}
 use Rattle.keel_disk.specs.Told.{Told, CountsForged}
 use Rattle.keel_simdisk.specs.declared.rules.Armed.{Armed}
@@ -29,15 +31,16 @@ use Rattle.keel_simdisk.specs.Rules.{Meets}
 abbrev pub told_of : SimDisk → Told
 told_of disk = record { state = disk.state; room = disk.capacity - used disk.state; last = disk.last; forged = disk.forged }
 
--- how many changing calls were handed in, how often it has failed, and how it failed last
-abbrev pub changes_of : SimDisk → ℕ
-changes_of disk = disk.changes
-
-abbrev pub faults_of : SimDisk → ℕ
-faults_of disk = disk.faults
-
-abbrev pub last_fault_of : SimDisk → Option Fault
-last_fault_of disk = disk.last_fault
+-- what it shows
+abbrev pub seen_of : SimDisk → Seen
+seen_of disk = record {
+  told = Some (told_of disk);
+  changes = disk.changes;
+  faults = disk.faults;
+  last_fault = disk.last_fault;
+  simulated = true;
+  arranged = disk.arranged;
+}
 
 -- a device as it is made: an empty directory, and nothing armed
 abbrev pub empty_disk : ℕ → SimDisk
@@ -50,6 +53,7 @@ empty_disk capacity = record {
   faults = 0;
   last_fault = None;
   forged = 0;
+  arranged = [];
 }
 
 -- ---- calls that change the device
@@ -161,8 +165,9 @@ ReadsDisk disk (Err disk_error.OutOfMemory) after = after ≡ disk
 abbrev pub armed_with : Rule → SimDisk → SimDisk
 armed_with (Fail call fault skip times keep) disk = record disk {
   rules = disk.rules ++ (record { call = call; fault = fault; skip = skip; times = times; keep = keep }) ∷ [];
+  arranged = ArmedBy (Fail call fault skip times keep) ∷ disk.arranged;
 }
-armed_with (Capacity bytes) disk = record disk { capacity = bytes }
+armed_with (Capacity bytes) disk = record disk { capacity = bytes; arranged = ArmedBy (Capacity bytes) ∷ disk.arranged }
 
 -- a rule is armed, and for want of memory none
 abbrev pub ArmsRule : Rule → SimDisk → Result Bool OutOfMemory → SimDisk → Type 0
@@ -171,7 +176,12 @@ ArmsRule rule disk (Err error) after = after ≡ disk
 
 -- the image that was picked is left, no rule is armed, and a forged image is counted
 pub record CrashesAs (pick : Pick) (disk after : SimDisk) : Type 0 where
-  pub leaves : after ≡ record disk { state = restarted (image_left pick disk.state); rules = []; forged = after.forged }
+  pub leaves : after ≡ record disk {
+    state = restarted (image_left pick disk.state);
+    rules = [];
+    forged = after.forged;
+    arranged = Crashed pick ∷ disk.arranged;
+  }
   pub counts : CountsForged (IsPlainLeft pick disk.state) disk.forged after.forged
 
 -- a crash; for want of memory there is none

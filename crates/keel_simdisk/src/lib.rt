@@ -24,6 +24,7 @@ pub mod laws;
 mod listing;
 mod medium;
 mod names;
+mod noted;
 mod rules;
 mod sim_disk;
 mod spelled;

@@ -3,18 +3,21 @@ ghost use Rattle.std.specs.Prelude.{◌≡◌, ◌≢◌, None, Some, length, Op
 ghost use Rattle.keel_base.specs.declared.failure.Fault.TheVariants.{SpaceLimit};
 ghost use Rattle.keel_base.specs.Counts.{raised};
 ghost use Rattle.keel_base.specs.Name.{IsName};
-ghost use Rattle.keel_disk.specs.Counts.{FaultCounted, counted, disk_fault, read_fault};
+ghost use Rattle.keel_disk.specs.declared.rule.Arranged.TheVariants as arranged;
+ghost use Rattle.keel_disk.specs.Counts.{FaultCounted, disk_fault, read_fault};
 ghost use Rattle.keel_disk.specs.Listings.{IsListing};
 ghost use Rattle.keel_disk.specs.Rule.{IsAllowed};
+ghost use Rattle.keel_disk.specs.Seen.{Calls, IsQuiet, IsArranged, AreAtMost};
 ghost use Rattle.keel_disk.specs.Sound.{IsAtRest, IsLawful};
-ghost use Rattle.keel_disk.specs.Told.{Changes, TellsAbsent, TellsRead, TellsSize, TellsListing, TellsRoom, Arranges, Crashes};
+ghost use Rattle.keel_disk.specs.Told.{TellsAbsent, TellsRead, TellsSize, TellsListing, TellsRoom, Arranges, Crashes};
 ghost use Rattle.keel_simdisk.specs.Rules.{planned_of};
-ghost use Rattle.keel_simdisk.specs.Calls.{empty_disk, told_of, changes_of, faults_of, last_fault_of, kind_of as kind, is_overfull, failure_of, MakesCall, ReadsFile, ReadsDisk, ArmsRule, MakesCrash};
+ghost use Rattle.keel_simdisk.specs.Calls.{empty_disk, told_of, seen_of, kind_of as kind, is_overfull, failure_of, MakesCall, ReadsFile, ReadsDisk, ArmsRule, MakesCrash};
 
 use crate::medium::Medium;
+use crate::noted::Noted;
 use crate::rules::{Armed, Met, Planned, Rules, plan_of};
 use keel_base::{Bytes, Call, Fault, FileName, Listing, OutOfMemory};
-use keel_disk::{Change, Device, Disk, DiskError, Pick, ReadError, Rule};
+use keel_disk::{Arranged, Change, Device, Disk, DiskError, Pick, ReadError, Rule};
 use std::alloc::Global;
 
 /// A device in memory, which fails and crashes as it is told.
@@ -28,6 +31,7 @@ pub struct SimDisk {
     faults: u64,
     last_fault: Option<Fault>,
     forged: u64,
+    arranged: Noted,
 }
 
 fn kind_of(change: &Change) -> Call
@@ -59,6 +63,7 @@ impl SimDisk {
             faults: 0,
             last_fault: None,
             forged: 0,
+            arranged: Noted::new(alloc),
         }
     }
 
@@ -117,7 +122,7 @@ impl SimDisk {
     fn note_fault(&mut self, fault: Fault)
         requires { fault ≢ SpaceLimit }
         ensures after { self.new ≡ record self.old { faults = raised self.old.faults; last_fault = Some fault } }
-        ensures cause { FaultCounted (faults_of self.old) (faults_of self.new) (last_fault_of self.new) (Some fault) }
+        ensures cause { FaultCounted (seen_of self.old).faults (seen_of self.new).faults (seen_of self.new).last_fault (Some fault) }
     {
         let before = self.faults;
         self.faults = before.saturating_add(1);
@@ -128,9 +133,7 @@ impl SimDisk {
     fn make(&mut self, alloc: Global, change: Change) -> Result<(), DiskError>
         requires { IsLawful change }
         ensures exact { MakesCall change self.old result self.new }
-        ensures step { Changes change (Some (told_of self.old)) result (Some (told_of self.new)) }
-        ensures count { changes_of self.new ≡ counted (changes_of self.old) result }
-        ensures cause { FaultCounted (faults_of self.old) (faults_of self.new) (last_fault_of self.new) (disk_fault result) }
+        ensures call { Calls (seen_of self.old) change result (seen_of self.new) }
     {
         if !self.state.takes(&change) {
             self.note(change);
@@ -153,31 +156,19 @@ impl SimDisk {
 }
 
 impl Disk for SimDisk {
-    ghost told = { λ s. Some (told_of s) };
-
-    ghost changes = { changes_of };
-
-    ghost faults = { faults_of };
-
-    ghost last_fault = { last_fault_of };
-
-    ghost is_simulated = { λ _. true };
+    ghost seen = { seen_of };
 
     fn create(&mut self, alloc: Global, name: FileName) -> Result<(), DiskError>
         requires { IsName name }
         ensures exact { MakesCall (Change.Create name) self.old result self.new }
-        ensures step { Changes (Change.Create name) (Some (told_of self.old)) result (Some (told_of self.new)) }
-        ensures count { changes_of self.new ≡ counted (changes_of self.old) result }
-        ensures cause { FaultCounted (faults_of self.old) (faults_of self.new) (last_fault_of self.new) (disk_fault result) }
+        ensures call { Calls (seen_of self.old) (Change.Create name) result (seen_of self.new) }
     {
         self.make(alloc, Change::Create { name })
     }
 
     fn append(&mut self, alloc: Global, name: FileName, bytes: &[u8]) -> Result<(), DiskError>
         ensures exact { MakesCall (Change.Append name bytes.now) self.old result self.new }
-        ensures step { Changes (Change.Append name bytes.now) (Some (told_of self.old)) result (Some (told_of self.new)) }
-        ensures count { changes_of self.new ≡ counted (changes_of self.old) result }
-        ensures cause { FaultCounted (faults_of self.old) (faults_of self.new) (last_fault_of self.new) (disk_fault result) }
+        ensures call { Calls (seen_of self.old) (Change.Append name bytes.now) result (seen_of self.new) }
     {
         let copy = Bytes::from_slice(alloc, bytes)?;
         self.make(alloc, Change::Append { name, bytes: copy })
@@ -185,9 +176,7 @@ impl Disk for SimDisk {
 
     fn sync(&mut self, alloc: Global, name: FileName) -> Result<(), DiskError>
         ensures exact { MakesCall (Change.Sync name) self.old result self.new }
-        ensures step { Changes (Change.Sync name) (Some (told_of self.old)) result (Some (told_of self.new)) }
-        ensures count { changes_of self.new ≡ counted (changes_of self.old) result }
-        ensures cause { FaultCounted (faults_of self.old) (faults_of self.new) (last_fault_of self.new) (disk_fault result) }
+        ensures call { Calls (seen_of self.old) (Change.Sync name) result (seen_of self.new) }
     {
         self.make(alloc, Change::Sync { name })
     }
@@ -195,36 +184,28 @@ impl Disk for SimDisk {
     fn rename(&mut self, alloc: Global, from: FileName, to: FileName) -> Result<(), DiskError>
         requires { IsName to }
         ensures exact { MakesCall (Change.Rename from to) self.old result self.new }
-        ensures step { Changes (Change.Rename from to) (Some (told_of self.old)) result (Some (told_of self.new)) }
-        ensures count { changes_of self.new ≡ counted (changes_of self.old) result }
-        ensures cause { FaultCounted (faults_of self.old) (faults_of self.new) (last_fault_of self.new) (disk_fault result) }
+        ensures call { Calls (seen_of self.old) (Change.Rename from to) result (seen_of self.new) }
     {
         self.make(alloc, Change::Rename { from, to })
     }
 
     fn remove(&mut self, alloc: Global, name: FileName) -> Result<(), DiskError>
         ensures exact { MakesCall (Change.Remove name) self.old result self.new }
-        ensures step { Changes (Change.Remove name) (Some (told_of self.old)) result (Some (told_of self.new)) }
-        ensures count { changes_of self.new ≡ counted (changes_of self.old) result }
-        ensures cause { FaultCounted (faults_of self.old) (faults_of self.new) (last_fault_of self.new) (disk_fault result) }
+        ensures call { Calls (seen_of self.old) (Change.Remove name) result (seen_of self.new) }
     {
         self.make(alloc, Change::Remove { name })
     }
 
     fn cut(&mut self, alloc: Global, name: FileName, length: u64) -> Result<(), DiskError>
         ensures exact { MakesCall (Change.Cut name length) self.old result self.new }
-        ensures step { Changes (Change.Cut name length) (Some (told_of self.old)) result (Some (told_of self.new)) }
-        ensures count { changes_of self.new ≡ counted (changes_of self.old) result }
-        ensures cause { FaultCounted (faults_of self.old) (faults_of self.new) (last_fault_of self.new) (disk_fault result) }
+        ensures call { Calls (seen_of self.old) (Change.Cut name length) result (seen_of self.new) }
     {
         self.make(alloc, Change::Cut { name, length })
     }
 
     fn sync_dir(&mut self, alloc: Global) -> Result<(), DiskError>
         ensures exact { MakesCall Change.SyncDir self.old result self.new }
-        ensures step { Changes Change.SyncDir (Some (told_of self.old)) result (Some (told_of self.new)) }
-        ensures count { changes_of self.new ≡ counted (changes_of self.old) result }
-        ensures cause { FaultCounted (faults_of self.old) (faults_of self.new) (last_fault_of self.new) (disk_fault result) }
+        ensures call { Calls (seen_of self.old) Change.SyncDir result (seen_of self.new) }
     {
         self.make(alloc, Change::SyncDir)
     }
@@ -238,10 +219,9 @@ impl Disk for SimDisk {
     ) -> Result<Bytes, ReadError>
         ensures exact { ReadsFile self.old result self.new }
         ensures bytes { TellsRead name place length (Some (told_of self.old)) result }
+        ensures bound { IfOk result (AreAtMost length) }
         ensures absent { TellsAbsent name (Some (told_of self.old)) result }
-        ensures same { told_of self.new ≡ told_of self.old }
-        ensures count { changes_of self.new ≡ changes_of self.old }
-        ensures cause { FaultCounted (faults_of self.old) (faults_of self.new) (last_fault_of self.new) (read_fault result) }
+        ensures quiet { IsQuiet (seen_of self.old) (read_fault result) (seen_of self.new) }
     {
         let met = self.rules.first(Call::Read);
         if let Some(planned) = plan_of(met) {
@@ -261,9 +241,7 @@ impl Disk for SimDisk {
         ensures exact { ReadsFile self.old result self.new }
         ensures size { TellsSize name (Some (told_of self.old)) result }
         ensures absent { TellsAbsent name (Some (told_of self.old)) result }
-        ensures same { told_of self.new ≡ told_of self.old }
-        ensures count { changes_of self.new ≡ changes_of self.old }
-        ensures cause { FaultCounted (faults_of self.old) (faults_of self.new) (last_fault_of self.new) (read_fault result) }
+        ensures quiet { IsQuiet (seen_of self.old) (read_fault result) (seen_of self.new) }
     {
         let met = self.rules.first(Call::Read);
         self.rules.count(met);
@@ -281,9 +259,7 @@ impl Disk for SimDisk {
         ensures exact { ReadsDisk self.old result self.new }
         ensures listing { IfOk result (TellsListing (Some (told_of self.old))) }
         ensures order { IfOk result IsListing }
-        ensures same { told_of self.new ≡ told_of self.old }
-        ensures count { changes_of self.new ≡ changes_of self.old }
-        ensures cause { FaultCounted (faults_of self.old) (faults_of self.new) (last_fault_of self.new) (disk_fault result) }
+        ensures quiet { IsQuiet (seen_of self.old) (disk_fault result) (seen_of self.new) }
     {
         let met = self.rules.first(Call::Read);
         if let Some(planned) = plan_of(met) {
@@ -299,9 +275,7 @@ impl Disk for SimDisk {
     fn free(&mut self, _alloc: Global) -> Result<u64, DiskError>
         ensures exact { ReadsDisk self.old result self.new }
         ensures room { IfOk result (TellsRoom (Some (told_of self.old))) }
-        ensures same { told_of self.new ≡ told_of self.old }
-        ensures count { changes_of self.new ≡ changes_of self.old }
-        ensures cause { FaultCounted (faults_of self.old) (faults_of self.new) (last_fault_of self.new) (disk_fault result) }
+        ensures quiet { IsQuiet (seen_of self.old) (disk_fault result) (seen_of self.new) }
     {
         let met = self.rules.first(Call::Read);
         self.rules.count(met);
@@ -326,15 +300,11 @@ impl Device for SimDisk {
         ensures exact { ArmsRule rule self.old result self.new }
         ensures answer { IfOk result (λ done. done ≡ true) }
         ensures told { Arranges (Some (told_of self.old)) result (Some (told_of self.new)) }
-        ensures count { changes_of self.new ≡ changes_of self.old }
-        ensures faults { faults_of self.new ≡ faults_of self.old }
-        ensures last_fault { last_fault_of self.new ≡ last_fault_of self.old }
+        ensures rest { IsArranged (arranged.Armed rule) (seen_of self.old) result (seen_of self.new) }
     {
+        self.arranged.note(Arranged::Armed(rule))?;
         match rule {
-            Rule::Capacity(bytes) => {
-                self.capacity = bytes;
-                Ok(true)
-            }
+            Rule::Capacity(bytes) => self.capacity = bytes,
             Rule::Fail {
                 call,
                 fault,
@@ -342,27 +312,30 @@ impl Device for SimDisk {
                 times,
                 keep,
             } => {
-                self.rules.arm(Armed {
+                let armed = Armed {
                     call,
                     fault,
                     skip,
                     times,
                     keep,
-                })?;
-                Ok(true)
+                };
+                if let Err(error) = self.rules.arm(armed) {
+                    self.arranged.take_back();
+                    return Err(error);
+                }
             }
         }
+        Ok(true)
     }
 
     fn crash(&mut self, alloc: Global, pick: Pick) -> Result<bool, OutOfMemory>
         ensures exact { MakesCrash pick self.old result self.new }
         ensures answer { IfOk result (λ done. done ≡ true) }
         ensures told { Crashes (Some (told_of self.old)) result (Some (told_of self.new)) }
-        ensures count { changes_of self.new ≡ changes_of self.old }
-        ensures faults { faults_of self.new ≡ faults_of self.old }
-        ensures last_fault { last_fault_of self.new ≡ last_fault_of self.old }
+        ensures rest { IsArranged (arranged.Crashed pick) (seen_of self.old) result (seen_of self.new) }
     {
         let left = self.state.restarted(alloc, pick)?;
+        self.arranged.note(Arranged::Crashed(pick))?;
         self.state = left.medium;
         self.rules.clear();
         if !left.plain {

@@ -54,17 +54,9 @@ fn none(alloc: Global) -> Listing
 }
 
 impl Disk for Shelf {
-    ghost use Rattle.std.specs.Prelude.{false, None};
+    ghost use Rattle.std.specs.Prelude.{false, None, []};
 
-    ghost told = { λ _. None };
-
-    ghost changes = { λ _. 0 };
-
-    ghost faults = { λ _. 0 };
-
-    ghost last_fault = { λ _. None };
-
-    ghost is_simulated = { λ _. false };
+    ghost seen = { λ _. record { told = None; changes = 0; faults = 0; last_fault = None; simulated = false; arranged = [] } };
 
     fn create(&mut self, _alloc: Global, _name: FileName) -> Result<(), DiskError> {
         Err(DiskError::OutOfMemory)
@@ -99,7 +91,7 @@ impl Disk for Shelf {
         alloc: Global,
         name: FileName,
         place: u64,
-        _length: u32,
+        length: u32,
     ) -> Result<Bytes, ReadError> {
         let bytes = match (self.scene, name) {
             (Scene::One(bytes), FileName::Log(1)) => bytes,
@@ -108,7 +100,8 @@ impl Disk for Shelf {
             _ => return Err(ReadError::Absent),
         };
         let rest = bytes.get(place as usize..).unwrap_or(b"");
-        Ok(Bytes::from_slice(alloc, rest)?)
+        let part = rest.get(..length as usize).unwrap_or(rest);
+        Ok(Bytes::from_slice(alloc, part)?)
     }
 
     fn size(&mut self, _alloc: Global, _name: FileName) -> Result<u64, ReadError> {

@@ -1,7 +1,7 @@
 use Rattle.std.proofs.Common.{◌≡◌, ℕ, ◌+◌, List, [], ◌∷◌, ◌++◌, Ok, Err, Some, ap, arith, length, length-append, refl, ◌∙◌}
 use Rattle.keel_lines.specs.Calls.{GivesLine, IsFinished, IsHeld}
 use Rattle.keel_lines.proofs.Deliveries.{adds_line}
-use Rattle.keel_machine.specs.States.{Seen}
+use Rattle.keel_disk.specs.Seen.{Seen}
 use Rattle.keel_cli.specs.Places.{shown_by}
 use Rattle.keel_cli.specs.Sessions.{Session, unopened}
 use Rattle.keel_cli.proofs.Ending.{device_as}

@@ -1,5 +1,5 @@
 use Rattle.std.proofs.Common.{sym, ◌∙◌, ap}
-use Rattle.keel_machine.specs.States.{Seen}
+use Rattle.keel_disk.specs.Seen.{Seen}
 use Rattle.keel_cli.specs.Places.{shown_by}
 use Rattle.keel_cli.proofs.Carrying.{rested_closed, not_crashed_closed}
 use Rattle.keel_cli.proofs.place.carry_closed.Goals as goal

@@ -1,5 +1,5 @@
 use Rattle.std.proofs.Common.{sym, ◌∙◌, ap}
-use Rattle.keel_machine.specs.States.{Seen}
+use Rattle.keel_disk.specs.Seen.{Seen}
 use Rattle.keel_cli.specs.Places.{shown_by}
 use Rattle.keel_cli.proofs.Carrying.{open_device, not_crashed_open}
 use Rattle.keel_cli.proofs.place.crash_store.Goals as goal

@@ -1,5 +1,5 @@
 use Rattle.std.proofs.Common.{false, refl}
-use Rattle.keel_machine.specs.States.{Seen}
+use Rattle.keel_disk.specs.Seen.{Seen}
 use Rattle.keel_machine.specs.Turns.{after, Listing}
 use Rattle.keel_cli.specs.declared.place.Place.TheVariants.{Closed}
 use Rattle.keel_cli.specs.Places.{shown_by}

@@ -1,5 +1,6 @@
 use Rattle.std.proofs.Common.{refl}
-use Rattle.keel_machine.specs.States.{Seen, Unknown}
+use Rattle.keel_disk.specs.Seen.{Seen}
+use Rattle.keel_machine.specs.States.{Unknown}
 use Rattle.keel_cli.specs.Places.{shown_by}
 use Rattle.keel_cli.specs.Sessions.{unopened}
 use Rattle.keel_cli.proofs.Carrying.{expected, opened_run, opened_told, refused_run}

@@ -20,7 +20,7 @@ returns-then-hand_over-clause-turn g c =
     rw (← c.self.view_is, job, c.hand_over.ensures.view, q.waiting, q.group, q.job, q.outcomes, q.last_ticket)
     (records_moved_at _ _ _ w.queue.outcomes.items w.queue.last_ticket w.standing c.as_slice.result.now c.args.number c.args.size c.in-Some.behind
     w.log w.queue.waiting (flying w.queue.group) w.queue.job w.next_file stage some bytes behind wants
-    (record { leaves = c.in-Ok-append.ensures.step; count = c.in-Ok-append.ensures.count; cause = c.in-Ok-append.ensures.cause; simulated = c.in-Ok-append.ensures.simulated }))
+    c.in-Ok-append.ensures)
 
 pub returns-in-Ok-append-clause-turn : goal.returns-in-Ok-append-clause-turn
 returns-in-Ok-append-clause-turn g c =
@@ -34,7 +34,7 @@ returns-in-Ok-append-clause-turn g c =
     rw (← c.self.view_is, c.publish.ensures.step, c.publish.ensures.view, c.hand_over.ensures.view, q.waiting, q.group, q.job, q.outcomes, q.last_ticket)
     (records_done_at _ _ _ w.queue.outcomes.items w.queue.last_ticket w.standing c.as_slice.result.now c.args.number c.args.size c.in-Some.behind
     w.log w.queue.waiting (flying w.queue.group) w.queue.job w.next_file stage some bytes behind wants
-    (record { leaves = c.in-Ok-append.ensures.step; count = c.in-Ok-append.ensures.count; cause = c.in-Ok-append.ensures.cause; simulated = c.in-Ok-append.ensures.simulated }))
+    c.in-Ok-append.ensures)
 
 pub returns-in-Err-Fault-clause-turn : goal.returns-in-Err-Fault-clause-turn
 returns-in-Err-Fault-clause-turn g c =
@@ -48,7 +48,7 @@ returns-in-Err-Fault-clause-turn g c =
     rw (← c.self.view_is, c.fail.ensures.step, c.fail.ensures.view, c.hand_over-in-Err-Fault.ensures.view, q.waiting, q.group, q.job, q.outcomes, q.last_ticket)
     (records_refused_at _ _ _ w.queue.outcomes.items w.queue.last_ticket w.standing c.as_slice.result.now c.args.number c.args.size c.in-Some.behind
     w.log w.queue.waiting (flying w.queue.group) w.queue.job w.next_file stage some bytes behind c.in-Err-Fault.fault
-    (record { leaves = answered.step; count = answered.count; cause = answered.cause; simulated = answered.simulated }))
+    answered)
 
 pub returns-clause-turn : goal.returns-clause-turn
 returns-clause-turn g c =
@@ -56,7 +56,7 @@ returns-clause-turn g c =
     let answered = rw c.in-Err-OutOfMemory.field-0-is at c.in-Err-OutOfMemory.ensures in
     rw (← c.self.view_is)
     (want_at _ _ _ w.queue.outcomes.items w.queue.last_ticket w.standing (Append (Log c.args.number) c.as_slice.result.now) w.log w.queue.waiting (flying w.queue.group) w.queue.job w.next_file
-    (record { leaves = answered.step; count = answered.count; cause = answered.cause; simulated = answered.simulated }))
+    answered)
 
 pub invariant_of-self : goal.invariant_of-self
 invariant_of-self g c =

@@ -1,6 +1,5 @@
 use Rattle.std.proofs.Common.{sym, ap, ◌∙◌, ◌+◌, [], ◌∷◌, ◌++◌, arith}
 use Rattle.keel_group.specs.Queue.{ticketed}
-use Rattle.keel_machine.specs.Outside.{seen}
 use Rattle.keel_core.specs.Flights.{flying}
 use Rattle.keel_core.specs.Trails.{shown}
 use Rattle.keel_core.specs.Views.{CoreView}
@@ -76,7 +75,7 @@ returns-in-Queued g c =
     let q = c.reserve-else-is_err.ensures in
     let D = g.D.Disk in
     let old : CoreView = record {
-      device = seen (D.told w.disk) (D.changes w.disk) (D.faults w.disk) (D.last_fault w.disk) (D.is_simulated w.disk);
+      device = D.seen w.disk;
       trail = shown w.trail;
       stage = w.log;
       waiting = w.queue.waiting;

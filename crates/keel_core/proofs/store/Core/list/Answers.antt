@@ -5,5 +5,5 @@ pub returns : goal.returns
 returns g c =
     let r = c.list.ensures in
     record {
-      turn = rw (← c.self.view_is) (listed_goes _ _ c.list.result r.listing r.order (record { same = r.same; count = r.count; cause = r.cause; simulated = r.simulated }));
+      turn = rw (← c.self.view_is) (listed_goes _ _ c.list.result r.listing r.order r.quiet);
     }

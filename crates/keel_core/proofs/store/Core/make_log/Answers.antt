@@ -15,7 +15,7 @@ returns-in-Ok-create-clause-turn g c =
     rw (← c.self.view_is, q.waiting, q.group, q.job, q.outcomes, q.last_ticket)
     (log_made_at _ _ _ w.queue.outcomes.items w.queue.last_ticket w.standing w.log w.queue.waiting (flying w.queue.group) w.queue.job w.next_file
     stage c.self.invariant.staged can.some (can.file stage)
-    (record { leaves = c.in-Ok-create.ensures.step; count = c.in-Ok-create.ensures.count; cause = c.in-Ok-create.ensures.cause; simulated = c.in-Ok-create.ensures.simulated }))
+    c.in-Ok-create.ensures)
 
 pub returns-in-Err-Fault-clause-turn : goal.returns-in-Err-Fault-clause-turn
 returns-in-Err-Fault-clause-turn g c =
@@ -27,7 +27,7 @@ returns-in-Err-Fault-clause-turn g c =
     rw (← c.self.view_is, c.fail.ensures.view, c.fail.ensures.step, q.waiting, q.group, q.job, q.outcomes, q.last_ticket)
     (log_failed_at _ _ _ w.queue.outcomes.items w.queue.last_ticket w.standing w.log w.queue.waiting (flying w.queue.group) w.queue.job w.next_file c.in-Err-Fault.fault
     stage c.self.invariant.staged can.some (can.file stage)
-    (record { leaves = answered.step; count = answered.count; cause = answered.cause; simulated = answered.simulated }))
+    answered)
 
 pub returns-in-Err-OutOfMemory-clause-turn : goal.returns-in-Err-OutOfMemory-clause-turn
 returns-in-Err-OutOfMemory-clause-turn g c =
@@ -35,7 +35,7 @@ returns-in-Err-OutOfMemory-clause-turn g c =
     let answered = rw c.in-Err-OutOfMemory.field-0-is at c.in-Err-OutOfMemory.ensures in
     rw (← c.self.view_is)
     (want_at _ _ _ w.queue.outcomes.items w.queue.last_ticket w.standing (Create (Log w.next_file)) w.log w.queue.waiting (flying w.queue.group) w.queue.job w.next_file
-    (record { leaves = answered.step; count = answered.count; cause = answered.cause; simulated = answered.simulated }))
+    answered)
 
 pub returns-in_default-clause-turn : goal.returns-in_default-clause-turn
 returns-in_default-clause-turn g c = want_before _

@@ -5,9 +5,9 @@ pub returns-in-Ok-placed-clause-ok : goal.returns-in-Ok-placed-clause-ok
 returns-in-Ok-placed-clause-ok g c s is expects =
     let r = c.in-Ok.ensures in
     rw c.behind.ensures
-    (opens s _ _ c.in-Ok.found is expects r.answers r.runs_on (record { same = r.same; count = r.count; cause = r.cause; simulated = r.simulated }))
+    (opens s _ _ c.in-Ok.found is expects r.answers r.runs_on r.quiet)
 
 pub returns-in-Err-clause-refused : goal.returns-in-Err-clause-refused
 returns-in-Err-clause-refused g c s is =
     let r = c.in-Err.ensures in
-    refuses s _ _ c.in-Err.refusal is r.answers r.other (record { same = r.same; count = r.count; cause = r.cause; simulated = r.simulated })
+    refuses s _ _ c.in-Err.refusal is r.answers r.other r.quiet

@@ -1,6 +1,5 @@
 use Rattle.std.proofs.Common.{◌+◌, ◌++◌, length, sym, ap, ◌∙◌, arith}
 use Rattle.keel_machine.specs.declared.steps.WriteStep.TheVariants as step
-use Rattle.keel_machine.specs.Outside.{seen}
 use Rattle.keel_core.specs.Trails.{TrailShown, shown, point_at}
 use Rattle.keel_core.specs.Views.{CoreView}
 use Rattle.keel_machine.specs.Admission.{count_ops, ops_of}
@@ -36,7 +35,7 @@ returns-clause-view g c =
     let q = c.settle_done.ensures in
     let D = g.D.Disk in
     let old : CoreView = record {
-      device = seen (D.told w.disk) (D.changes w.disk) (D.faults w.disk) (D.last_fault w.disk) (D.is_simulated w.disk);
+      device = D.seen w.disk;
       trail = shown w.trail;
       stage = w.log;
       waiting = w.queue.waiting;

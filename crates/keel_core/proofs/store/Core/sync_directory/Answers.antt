@@ -10,7 +10,7 @@ returns-in-Ok-clause-turn g c =
     rw (← c.self.view_is)
     (name_synced_at _ _ _ w.queue.outcomes.items w.queue.last_ticket w.standing w.log w.queue.waiting (flying w.queue.group) c.args.number w.queue.job w.next_file
     stage c.self.invariant.staged
-    (record { leaves = c.in-Ok.ensures.step; count = c.in-Ok.ensures.count; cause = c.in-Ok.ensures.cause; simulated = c.in-Ok.ensures.simulated }))
+    c.in-Ok.ensures)
 
 pub returns-in-Err-Fault-clause-turn : goal.returns-in-Err-Fault-clause-turn
 returns-in-Err-Fault-clause-turn g c =
@@ -20,7 +20,7 @@ returns-in-Err-Fault-clause-turn g c =
     rw (← c.self.view_is, c.fail.ensures.view, c.fail.ensures.step)
     (name_failed_at _ _ _ w.queue.outcomes.items w.queue.last_ticket w.standing w.log w.queue.waiting (flying w.queue.group) c.args.number w.queue.job w.next_file c.in-Err-Fault.fault
     stage c.self.invariant.staged
-    (record { leaves = answered.step; count = answered.count; cause = answered.cause; simulated = answered.simulated }))
+    answered)
 
 pub returns-in-Err-OutOfMemory-clause-turn : goal.returns-in-Err-OutOfMemory-clause-turn
 returns-in-Err-OutOfMemory-clause-turn g c =
@@ -28,4 +28,4 @@ returns-in-Err-OutOfMemory-clause-turn g c =
     let answered = rw c.in-Err-OutOfMemory.field-0-is at c.in-Err-OutOfMemory.ensures in
     rw (← c.self.view_is)
     (want_at _ _ _ w.queue.outcomes.items w.queue.last_ticket w.standing SyncDir w.log w.queue.waiting (flying w.queue.group) w.queue.job w.next_file
-    (record { leaves = answered.step; count = answered.count; cause = answered.cause; simulated = answered.simulated }))
+    answered)

@@ -10,7 +10,7 @@ returns-in-Ok-clause-turn g c =
     rw (← c.self.view_is, c.publish.ensures.step, c.publish.ensures.view)
     (log_synced_at _ _ _ w.queue.outcomes.items w.queue.last_ticket w.standing c.args.number w.log w.queue.waiting (flying w.queue.group) w.queue.job w.next_file
     (rw (← c.self.view_is) at c.requires.stage) (rw (← c.self.view_is) at c.requires.gone)
-    (record { leaves = c.in-Ok.ensures.step; count = c.in-Ok.ensures.count; cause = c.in-Ok.ensures.cause; simulated = c.in-Ok.ensures.simulated }))
+    c.in-Ok.ensures)
 
 pub returns-in-Err-Fault-clause-turn : goal.returns-in-Err-Fault-clause-turn
 returns-in-Err-Fault-clause-turn g c =
@@ -19,7 +19,7 @@ returns-in-Err-Fault-clause-turn g c =
     rw (← c.self.view_is, c.fail.ensures.step, c.fail.ensures.view)
     (sync_failed_at _ _ _ w.queue.outcomes.items w.queue.last_ticket w.standing c.args.number w.log w.queue.waiting (flying w.queue.group) w.queue.job w.next_file c.in-Err-Fault.fault
     (rw (← c.self.view_is) at c.requires.stage) (rw (← c.self.view_is) at c.requires.gone)
-    (record { leaves = answered.step; count = answered.count; cause = answered.cause; simulated = answered.simulated }))
+    answered)
 
 pub returns-in-Err-OutOfMemory-clause-turn : goal.returns-in-Err-OutOfMemory-clause-turn
 returns-in-Err-OutOfMemory-clause-turn g c =
@@ -27,4 +27,4 @@ returns-in-Err-OutOfMemory-clause-turn g c =
     let answered = rw c.in-Err-OutOfMemory.field-0-is at c.in-Err-OutOfMemory.ensures in
     rw (← c.self.view_is)
     (want_at _ _ _ w.queue.outcomes.items w.queue.last_ticket w.standing (Sync (Log c.args.number)) w.log w.queue.waiting (flying w.queue.group) w.queue.job w.next_file
-    (record { leaves = answered.step; count = answered.count; cause = answered.cause; simulated = answered.simulated }))
+    answered)
