@@ -4,7 +4,6 @@ use Rattle.keel_base.specs.Points.{Point, origin}
 use Rattle.keel_base.specs.declared.failure.Failure.{Failure}
 use Rattle.keel_base.specs.declared.op.Batch.{Batch}
 use Rattle.keel_base.specs.declared.op.Op.{Op}
-use Rattle.keel_disk.specs.Told.{Told}
 use Rattle.keel_group.specs.Queue.{Ticketed}
 use Rattle.keel_disk.specs.Seen.{Seen}
 use Rattle.keel_machine.specs.declared.answers.Outcome.{Outcome}
@@ -68,9 +67,9 @@ pub record CoreView : Type 0 where
   pub standing : Option Failure
   pub next_file : ℕ
 
--- the device tells that of itself, and all else is as it was
-abbrev pub with_told : Option Told → CoreView → CoreView
-with_told told view = record view { device = record view.device { told = told } }
+-- the core over a device that shows this
+abbrev pub with_device : Seen → CoreView → CoreView
+with_device device view = record view { device = device }
 
 -- the map and the sequence behind the published batches
 abbrev pub point_in : CoreView → Point

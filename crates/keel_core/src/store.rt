@@ -1,12 +1,14 @@
 // The store: what it keeps, and the calls that make none of the device.
 ghost use Rattle.std.specs.Prelude.{◌≡◌, ◌<◌, IfOk};
+ghost use Rattle.keel_disk.specs.declared.rule.Arranged.TheVariants as Arranged;
 ghost use Rattle.keel_disk.specs.Rule.{IsAllowed};
+ghost use Rattle.keel_disk.specs.Seen.{IsArranged};
 ghost use Rattle.keel_disk.specs.Told.{Arranges};
 ghost use Rattle.keel_machine.specs.declared.answers.Outcome.TheVariants.{Waiting};
 ghost use Rattle.keel_machine.specs.Turns as event;
 ghost use Rattle.keel_machine.specs.Turns.{Admitting, Getting, Scanning, TakingOutcome};
 ghost use Rattle.keel_core.specs.Trails.{shown};
-ghost use Rattle.keel_core.specs.Views.{Turns, point_in, calls_left, with_told};
+ghost use Rattle.keel_core.specs.Views.{Turns, point_in, calls_left, with_device};
 
 use crate::log::OwnLog;
 use crate::queue::Queue;
@@ -165,11 +167,7 @@ impl<D: Disk> Core<D> {
 
     /// Hands the device back. It makes no call.
     pub fn finish(self) -> D
-        ensures told { D.told result ≡ self.device.told }
-        ensures changes { D.changes result ≡ self.device.changes }
-        ensures faults { D.faults result ≡ self.device.faults }
-        ensures last_fault { D.last_fault result ≡ self.device.last_fault }
-        ensures simulated { D.is_simulated result ≡ self.device.simulated }
+        ensures { D.seen result ≡ self.device }
     {
         self.disk
     }
@@ -189,7 +187,8 @@ impl<D: Device> Core<D> {
         requires { IsAllowed rule }
         ensures answer { IfOk result (λ done. done ≡ self.old.device.simulated) }
         ensures told { Arranges self.old.device.told result self.new.device.told }
-        ensures same { self.new ≡ with_told self.new.device.told self.old }
+        ensures rest { IsArranged (Arranged.Armed rule) self.old.device result self.new.device }
+        ensures same { self.new ≡ with_device self.new.device self.old }
     {
         self.disk.arrange(alloc, rule)
     }

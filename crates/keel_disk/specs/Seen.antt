@@ -21,7 +21,7 @@ pub record Seen : Type 0 where
   pub arranged : List Arranged
 
 -- a changing call, answered so
-pub record Calls {T : Type 0} (before : Seen) (change : Change) (answer : Result T DiskError) (after : Seen) : Type 0 where
+pub record Calls (before : Seen) (change : Change) (answer : Result (Unit {0}) DiskError) (after : Seen) : Type 0 where
   pub step : Changes change before.told answer after.told
   -- one for which there was no memory isn't counted
   pub count : after.changes ≡ counted before.changes answer
