@@ -9,7 +9,7 @@ use Rattle.keel_base.specs.declared.failure.Fault.{Fault}
 use Rattle.keel_disk.specs.Counts.{FaultCounted, disk_fault}
 use Rattle.keel_disk.specs.Listings.{IsListing}
 use Rattle.keel_disk.specs.Told.{Told, Crashes, TellsListing}
-use Rattle.keel_disk.specs.Seen.{Seen}
+use Rattle.keel_disk.specs.Seen.{Seen, IsQuiet, IsArranged}
 use Rattle.keel_machine.specs.declared.answers.Got.{Got}
 use Rattle.keel_machine.specs.declared.answers.Got.TheVariants as got
 use Rattle.keel_machine.specs.declared.answers.Scanned.{Scanned}
@@ -17,6 +17,8 @@ use Rattle.keel_machine.specs.declared.answers.Scanned.TheVariants as scanned
 use Rattle.keel_base.specs.declared.row.Row.{Row}
 use Rattle.keel_machine.specs.Opening.{continues}
 use Rattle.keel_machine.specs.States.{State, Mode, Unopened, Closed, Open as Opened, with_device}
+use Rattle.keel_disk.specs.declared.rule.Arranged.TheVariants.{Crashed}
+use Rattle.keel_disk.specs.declared.rule.Pick.{Pick}
 use Rattle.keel_machine.specs.Turns.{Turn, Answers, after, Opening, Getting, Scanning, Listing, Crashing}
 use Rattle.keel_machine.specs.Crash.{crash_after, mode_crashed}
 use Rattle.keel_reading.specs.declared.refusal.OpenRefusal.{OpenRefusal}
@@ -235,6 +237,9 @@ module _ (V : Type 0) (shown : V → Seen) (s : State) (dirops keep garbage seed
   abbrev crash : Command
   crash = Crash dirops keep garbage seed
 
+  abbrev picked : Pick
+  picked = record { dirops = dirops; keep = keep; garbage = garbage; seed = seed }
+
   none_of_crash : rest_reply (is_open s.mode) crash ≡ None
   none_of_crash = by (is_open s.mode)
     where
@@ -242,12 +247,12 @@ module _ (V : Type 0) (shown : V → Seen) (s : State) (dirops keep garbage seed
       by true = refl
       by false = refl
 
-  pub crashed : (device : V) → IsCovered s → Drops s (shown device)
+  pub crashed : (device : V) → IsCovered s → Drops s picked (shown device)
       → CarriedOut {E = OutOfMemory} shown s crash (place.Closed device) (Ok (answers.One reply.Crashed))
   crashed device covered drops =
-      let left = crash_turns s (shown device) covered drops in
-      let next = after s (Crashing left.0) (shown device) in
-      let run : Calls s crash (reply.Crashed ∷ []) next = subst (λ b. CrashRun b s (reply.Crashed ∷ []) next) (sym drops.simulated) (left.0, (left.1, refl), refl) in
+      let left = crash_turns s picked (shown device) covered drops in
+      let next = after s (Crashing picked left.0) (shown device) in
+      let run : Calls s crash (reply.Crashed ∷ []) next = subst (λ b. CrashRun b s picked (reply.Crashed ∷ []) next) (sym drops.simulated) (left.0, (left.1, refl), refl) in
       (next, record { shut = shut_behind s left.0; device = refl }, calls_on_store s next crash (reply.Crashed ∷ []) none_of_crash run)
 
   pub crash_cut : (device : V) (e : OutOfMemory) → shown device ≡ s.device → CarriedOut shown s crash (place.Closed device) (Err e)
@@ -255,7 +260,7 @@ module _ (V : Type 0) (shown : V → Seen) (s : State) (dirops keep garbage seed
 
   not_crashed : s.device.simulated ≡ false → CarriesOnStore s crash (reply.NotSimulated ∷ []) s
   not_crashed is =
-      let run : Calls s crash (reply.NotSimulated ∷ []) s = subst (λ b. CrashRun b s (reply.NotSimulated ∷ []) s) (sym is) (record { same = refl; prints = refl }) in
+      let run : Calls s crash (reply.NotSimulated ∷ []) s = subst (λ b. CrashRun b s picked (reply.NotSimulated ∷ []) s) (sym is) (record { same = refl; prints = refl }) in
       calls_on_store s s crash (reply.NotSimulated ∷ []) none_of_crash run
 
   pub not_crashed_open : (core : CoreView) → StandsFor core s → s.device.simulated ≡ false
@@ -269,33 +274,29 @@ module _ (V : Type 0) (shown : V → Seen) (s : State) (dirops keep garbage seed
 -- ---- what a device that was called shows
 
 pub list_answers : (s : State) (before shows : Seen) (answer : Result (List Entry) DiskError) → s.device ≡ before → IfOk answer (TellsListing before.told) → IfOk answer IsListing
-    → shows.told ≡ before.told → shows.changes ≡ before.changes → FaultCounted before.faults shows.faults shows.last_fault (disk_fault answer)
-    → shows.simulated ≡ before.simulated → Answers s (Listing answer) shows
-list_answers s before shows answer is tells order same count cause simulated = rw is (record {
-  tells = tells;
-  order = order;
-  quiet = record { same = same; count = count; cause = cause; simulated = simulated };
-})
+    → IsQuiet before (disk_fault answer) shows → Answers s (Listing answer) shows
+list_answers s before shows answer is tells order quiet = rw is (record { tells = tells; order = order; quiet = quiet })
 
-pub dropped : (s : State) (before shows : Seen) (done : Bool) → s.device ≡ before → before.simulated ≡ true → done ≡ before.simulated
-    → Crashes {E = OutOfMemory} before.told (Ok done) shows.told → shows.changes ≡ before.changes → shows.faults ≡ before.faults → shows.last_fault ≡ before.last_fault
-    → shows.simulated ≡ before.simulated → Drops s shows
-dropped s before shows done is simulated answered_ crash count faults last_fault same = record {
-  simulated = rw is simulated;
-  crash = rw is (subst (λ (b : Bool). Crashes {E = OutOfMemory} before.told (Ok b) shows.told) (answered_ ∙ simulated) crash);
-  count = rw is count;
-  faults = rw is faults;
-  last_fault = rw is last_fault;
-  same = rw is same;
-}
+pub dropped : (s : State) (pick : Pick) (before shows : Seen) (done : Bool) → s.device ≡ before → before.simulated ≡ true → done ≡ before.simulated
+    → Crashes {E = OutOfMemory} before.told (Ok done) shows.told → IsArranged {E = OutOfMemory} (Crashed pick) before (Ok done) shows → Drops s pick shows
+dropped s pick before shows done is simulated answered_ crash rest =
+    let all : done ≡ true = answered_ ∙ simulated in record {
+      simulated = rw is simulated;
+      crash = rw is (subst (λ (b : Bool). Crashes {E = OutOfMemory} before.told (Ok b) shows.told) all crash);
+      rest = rw is (subst (λ (b : Bool). IsArranged {E = OutOfMemory} (Crashed pick) before (Ok b) shows) all rest);
+    }
 
 -- a crash for which memory was wanting
-pub not_crashed_told : (before after : Option Told) (e : OutOfMemory) → Crashes before (let r : Result Bool OutOfMemory = Err e in r) after → after ≡ before
+not_crashed_told : (before after : Option Told) (e : OutOfMemory) → Crashes before (let r : Result Bool OutOfMemory = Err e in r) after → after ≡ before
 not_crashed_told None after e same = same
 not_crashed_told (Some before) None e same = same
 not_crashed_told (Some before) (Some after) e same = same
 
-pub stayed : (told told' : Option Told) (changes changes' faults faults' : ℕ) (last_fault last_fault' : Option Fault) (simulated simulated' : Bool)
-    → told' ≡ told → changes' ≡ changes → faults' ≡ faults → last_fault' ≡ last_fault → simulated' ≡ simulated
-    → seen told' changes' faults' last_fault' simulated' ≡ seen told changes faults last_fault simulated
-stayed told told' changes changes' faults faults' last_fault last_fault' simulated simulated' a b c d e = λ i. seen (a i) (b i) (c i) (d i) (e i)
+same_seen : (before after : Seen) → after.told ≡ before.told → after.changes ≡ before.changes → after.faults ≡ before.faults → after.last_fault ≡ before.last_fault
+    → after.simulated ≡ before.simulated → after.arranged ≡ before.arranged → after ≡ before
+same_seen before after a b c d e f = λ i. record { told = a i; changes = b i; faults = c i; last_fault = d i; simulated = e i; arranged = f i }
+
+pub stayed : (pick : Pick) (before after : Seen) (e : OutOfMemory) → Crashes before.told (let r : Result Bool OutOfMemory = Err e in r) after.told
+    → IsArranged (Crashed pick) before (let r : Result Bool OutOfMemory = Err e in r) after → after ≡ before
+stayed pick before after e crash rest =
+    same_seen before after (not_crashed_told before.told after.told e crash) rest.count rest.faults rest.last_fault rest.simulated rest.arranged

@@ -2,6 +2,7 @@
 use Rattle.std.proofs.Common.{◌≡◌, ◌∙◌, ℕ, zero, suc, Bool, true, false, Option, None, Some, List, [], ◌∷◌, Err, refl, ap, sym, subst, inl, inr}
 use Rattle.keel_base.specs.declared.op.Batch.{Batch}
 use Rattle.keel_disk.specs.declared.error.DiskError.TheVariants as disk
+use Rattle.keel_disk.specs.declared.rule.Pick.{Pick}
 use Rattle.keel_machine.specs.declared.answers.Admit.{Admit}
 use Rattle.keel_machine.specs.declared.answers.Admit.TheVariants as admit
 use Rattle.keel_machine.specs.declared.answers.Got.TheVariants as got
@@ -96,9 +97,9 @@ module _ (C : State → Type 0) (keep : (old new : State) (event : Event) → Ma
 
   -- ---- commands on the store
 
-  crashed : (b : Bool) (old new : State) (replies : List Reply) → CrashRun b old replies new → C old → C new
-  crashed true old new replies run kept = keep old new (Crashing run.0) tt run.1 kept
-  crashed false old new replies rests kept = rw rests.same kept
+  crashed : (b : Bool) (old new : State) (pick : Pick) (replies : List Reply) → CrashRun b old pick replies new → C old → C new
+  crashed true old new pick replies run kept = keep old new (Crashing pick run.0) tt run.1 kept
+  crashed false old new pick replies rests kept = rw rests.same kept
 
   calls : (b : Bool) (old new : State) (command : Command) (replies : List Reply) → is_open old.mode ≡ b → rest_reply b command ≡ None → Calls old command replies new → C old → C new
   calls true old new Open replies opened none run kept = none_some _ none
@@ -120,7 +121,8 @@ module _ (C : State → Type 0) (keep : (old new : State) (event : Event) → Ma
   calls true old new (Drain moves) replies opened none run kept = drained moves old new replies run (record { opened = opened; kept = kept })
   calls false old new (Drain moves) replies opened none run kept = none_some _ none
   calls b old new Files replies opened none run kept = keep old new (Listing run.answer) tt run.turn kept
-  calls b old new (Crash dirops keep_ garbage seed) replies opened none run kept = crashed old.device.simulated old new replies run kept
+  calls b old new (Crash dirops keep_ garbage seed) replies opened none run kept =
+      crashed old.device.simulated old new (record { dirops = dirops; keep = keep_; garbage = garbage; seed = seed }) replies run kept
   calls b old new command replies opened none run kept = absurd run
 
   rests_or_calls : (r : Option Reply) (old new : State) (command : Command) (replies : List Reply) → rest_reply (is_open old.mode) command ≡ r → RestsOrCalls r old command replies new → C old → C new

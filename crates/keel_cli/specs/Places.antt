@@ -12,10 +12,6 @@ use Rattle.keel_recovery.specs.Machine.{is_open}
 use Rattle.keel_cli.specs.declared.place.Place.{Place}
 use Rattle.keel_cli.specs.declared.place.Place.TheVariants as place
 
--- what a device shows, by the ways to see each part of it
-abbrev pub shown_by : {V : Type 0} → (V → Option Told) → (V → ℕ) → (V → ℕ) → (V → Option Fault) → (V → Bool) → V → Seen
-shown_by told changes faults last_fault simulated device = seen (told device) (changes device) (faults device) (last_fault device) (simulated device)
-
 -- no store is open, and the device shows this
 pub record IsShut (shows : Seen) (s : State) : Type 0 where
   pub shut : is_open s.mode ≡ false

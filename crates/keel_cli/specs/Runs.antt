@@ -4,6 +4,7 @@ use Rattle.keel_base.specs.declared.listing.Entry.{Entry}
 use Rattle.keel_base.specs.declared.row.Row.{Row}
 use Rattle.keel_disk.specs.declared.error.DiskError.{DiskError}
 use Rattle.keel_disk.specs.declared.error.DiskError.TheVariants as disk
+use Rattle.keel_disk.specs.declared.rule.Pick.{Pick}
 use Rattle.keel_reading.specs.declared.refusal.OpenRefusal.{OpenRefusal}
 use Rattle.keel_reading.specs.declared.refusal.OpenRefusal.TheVariants as refusal
 use Rattle.keel_reading.specs.declared.replay.Found.{Found}
@@ -90,10 +91,10 @@ pub record ListRun (old : State) (replies : List Reply) (new : State) : Type 0 w
   pub turn : Turn old (Listing answer) new
   pub prints : listing_replies answer ≡ Some replies
 
--- the device crashes, where that can be had of it
-abbrev pub CrashRun : Bool → State → List Reply → State → Type 0
-CrashRun true old replies new = (kept : Option ℕ) × Turn old (Crashing kept) new × (replies ≡ reply.Crashed ∷ [])
-CrashRun false old replies new = Rests old reply.NotSimulated replies new
+-- the device crashes as it was picked, where that can be had of it
+abbrev pub CrashRun : Bool → State → Pick → List Reply → State → Type 0
+CrashRun true old pick replies new = (kept : Option ℕ) × Turn old (Crashing pick kept) new × (replies ≡ reply.Crashed ∷ [])
+CrashRun false old pick replies new = Rests old reply.NotSimulated replies new
 
 -- The reply to a command that makes no call, by whether a store is open. Commands that aren't built yet make none.
 abbrev pub rest_reply : Bool → Command → Option Reply
@@ -141,7 +142,8 @@ Calls old (Get key) replies new = GetRun old key replies new
 Calls old (Scan from to) replies new = ScanRun old from to replies new
 Calls old (Drain moves) replies new = DrainRun moves old replies new
 Calls old Files replies new = ListRun old replies new
-Calls old (Crash dirops keep garbage seed) replies new = CrashRun old.device.simulated old replies new
+Calls old (Crash dirops keep garbage seed) replies new =
+    CrashRun old.device.simulated old (record { dirops = dirops; keep = keep; garbage = garbage; seed = seed }) replies new
 Calls old command replies new = ⊥
 
 -- a command is answered without a call, or by its calls

@@ -3,7 +3,6 @@ ghost use Rattle.std.specs.Prelude.{◌≡◌, ◌⊎◌, ◌↔◌, IfOk, IsTru
 ghost use Rattle.std.specs.String.{string_bytes};
 ghost use Rattle.keel_cli.specs.declared.top.End.{End};
 ghost use Rattle.keel_cli.specs.Ends.{Ends, NamesNoLine, StaysOrRunsOut, named, outside, message_of, status_of, Tells};
-ghost use Rattle.keel_cli.specs.Places.{shown_by};
 ghost use Rattle.keel_cli.specs.Words.{AskForRun};
 
 use crate::{LinesDone, carry_lines};
@@ -54,8 +53,8 @@ fn work<S: Source, K: Sink, V: Device>(
 ) -> LinesDone<S, V>
     ensures usage { (result.end ≡ End.Usage) ↔ ¬ AskForRun (map string_bytes words.now.items) }
     ensures ends { Ends result.end
-        (outside (S.remaining source) (S.faults source) (K.held out.old) (K.faults out.old) (shown_by V.told V.changes V.faults V.last_fault V.is_simulated device))
-        (outside (S.remaining result.source) (S.faults result.source) (K.held out.new) (K.faults out.new) (shown_by V.told V.changes V.faults V.last_fault V.is_simulated result.device)) }
+        (outside (S.remaining source) (S.faults source) (K.held out.old) (K.faults out.old) (V.seen device))
+        (outside (S.remaining result.source) (S.faults result.source) (K.held out.new) (K.faults out.new) (V.seen result.device)) }
 {
     if ask_for_run(words) {
         carry_lines(alloc, source, out, device)
@@ -155,8 +154,8 @@ pub fn run_words<S: Source, K: Sink, E: Sink, V: Device>(
     // The status says how the run ended, what was done is what that end says, and err has its text.
     ensures ends { (end : End) × (result.status ≡ status_of end)
         × Ends end
-        (outside (S.remaining source) (S.faults source) (K.held out) (K.faults out) (shown_by V.told V.changes V.faults V.last_fault V.is_simulated device))
-        (outside (S.remaining result.source) (S.faults result.source) (K.held result.out) (K.faults result.out) (shown_by V.told V.changes V.faults V.last_fault V.is_simulated result.device))
+        (outside (S.remaining source) (S.faults source) (K.held out) (K.faults out) (V.seen device))
+        (outside (S.remaining result.source) (S.faults result.source) (K.held result.out) (K.faults result.out) (V.seen result.device))
         × Tells (message_of end) (E.held err) (E.faults err) (E.held result.err) (E.faults result.err) }
     ensures usage { (result.status ≡ 2) ↔ ¬ AskForRun (map string_bytes words.now.items) }
 {
