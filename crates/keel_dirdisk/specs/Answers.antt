@@ -1,7 +1,9 @@
 -- Answers of the folder's device.
-use Rattle.std.specs.Prelude.{◌≡◌, Option, Some, None, Result, Ok, Err, IfSome}
+use Rattle.std.specs.Prelude.{◌≡◌, ◌⊎◌, Option, Some, None, Result, Ok, Err}
+use Rattle.std.specs.declared.io.ErrorKind.{ErrorKind}
+use Rattle.std.specs.declared.io.ErrorKind.TheVariants.{StorageFull, QuotaExceeded}
 use Rattle.keel_base.specs.declared.failure.Fault.{Fault}
-use Rattle.keel_base.specs.declared.failure.Fault.TheVariants.{Plain}
+use Rattle.keel_base.specs.declared.failure.Fault.TheVariants.{Plain, NoSpace}
 use Rattle.keel_disk.specs.declared.error.DiskError.{DiskError}
 use Rattle.keel_disk.specs.declared.error.DiskError.TheVariants as error
 use Rattle.keel_disk.specs.declared.error.ReadError.{ReadError}
@@ -9,9 +11,20 @@ use Rattle.keel_disk.specs.declared.error.ReadError.TheVariants as read
 use Rattle.keel_dirdisk.specs.declared.stop.Stop.{Stop}
 use Rattle.keel_dirdisk.specs.declared.stop.Stop.TheVariants as stop
 
--- any failure of the host is plain
+-- the host has no room
+abbrev pub IsFull : ErrorKind → Type 0
+IsFull kind = (kind ≡ StorageFull) ⊎ (kind ≡ QuotaExceeded)
+
+-- why a call stops at an error of the host of this kind
+abbrev pub IsStopOf : ErrorKind → Stop → Type 0
+IsStopOf kind stop.Host = ¬ IsFull kind
+IsStopOf kind stop.Full = IsFull kind
+IsStopOf kind stop.OutOfMemory = ⊥
+
+-- want of room is one, and any other failure of the host is plain
 abbrev pub error_of : Stop → DiskError
 error_of stop.Host = error.Fault Plain
+error_of stop.Full = error.Fault NoSpace
 error_of stop.OutOfMemory = error.OutOfMemory
 
 -- an answer, by how the work ended
@@ -24,8 +37,12 @@ abbrev pub read_answer_of : {T : Type 0} → Result (Option T) Stop → Result T
 read_answer_of (Ok (Some value)) = Ok value
 read_answer_of (Ok None) = Err read.Absent
 read_answer_of (Err stop.Host) = Err (read.Fault Plain)
+read_answer_of (Err stop.Full) = Err (read.Fault NoSpace)
 read_answer_of (Err stop.OutOfMemory) = Err read.OutOfMemory
 
--- no other fault than a plain one
-abbrev pub IsPlain : Option Fault → Type 0
-IsPlain fault = IfSome fault (λ f. f ≡ Plain)
+-- no other fault than these two
+abbrev pub IsPlainOrFull : Option Fault → Type 0
+IsPlainOrFull None = Unit {0}
+IsPlainOrFull (Some Plain) = Unit {0}
+IsPlainOrFull (Some NoSpace) = Unit {0}
+IsPlainOrFull (Some _) = ⊥

@@ -1,20 +1,19 @@
 // The calls of a device on a folder of the host, with the files that stay open.
-ghost use Rattle.std.specs.Prelude.{◌≡◌, ℕ, ◌<◌, ◌≤◌, ◌++◌, ◌∷◌, true, false, length, All, OnOk, IfOk, IfSome, IsSomeAnd, slice_get, string_bytes, vec_len};
-ghost use Rattle.std.specs.Io.KnownBytes.{Appends};
+ghost use Rattle.std.specs.Prelude.{◌≡◌, ℕ, ◌<◌, ◌≤◌, ◌++◌, ◌∷◌, true, false, length, All, filter, OnOk, OnErr, IfOk, IfSome, IsSome, IsSomeAnd, slice_get, string_bytes, vec_len};
 ghost use Rattle.keel_base.specs.Name.{printed};
-ghost use Rattle.keel_dirdisk.specs.Opened.{IsOpen, IsSynced, renamed, without};
+ghost use Rattle.keel_dirdisk.specs.Opened.{IsOpen, IsSynced, is_unsettled, renamed, without};
 ghost use Rattle.keel_dirdisk.specs.Sorting.{AreNames};
 ghost use Rattle.keel_dirdisk.specs.Taking.{TakesFirst};
 
 use crate::held::HeldFiles;
-use crate::host::{make_at, open_at, remove_at, rename_at, size_at};
+use crate::host::{lock_at, make_at, open_at, remove_at, rename_at, size_at};
 use crate::listing::files_in;
 use crate::spelled::Spelled;
 use crate::stop::Stop;
 use keel_base::{Bytes, FileName};
 use keel_name::print;
 use std::alloc::Global;
-use std::fs::{self, OpenFile};
+use std::fs::{File, OpenFile};
 use std::io::{Read, Seek, SeekFrom};
 use std::rt::Files;
 
@@ -55,17 +54,17 @@ fn read_from<F: Read + Seek>(
     take_some(alloc, file, most)
 }
 
-/// A folder, of which nothing is opened before it is needed.
+/// A folder, of which nothing is opened before the first call. That call takes it for this device alone.
 #[derive(Drop)]
-pub struct Folder<'a, R: Files + AllocGlobal> {
+pub struct Folder<'a, R: Files<File = File> + AllocGlobal> {
     rt: &'a R,
     path: String,
-    held: HeldFiles<R::File>,
-    // the folder itself, once it was synced
-    own: Option<R::File>,
+    held: HeldFiles<File>,
+    // the folder itself, which is locked as long as it is open
+    own: Option<File>,
 }
 
-impl<'a, R: Files + AllocGlobal> Folder<'a, R> {
+impl<'a, R: Files<File = File> + AllocGlobal> Folder<'a, R> {
     pub fn new(rt: &'a R, path: String) -> Self {
         Folder {
             rt,
@@ -73,6 +72,17 @@ impl<'a, R: Files + AllocGlobal> Folder<'a, R> {
             held: HeldFiles::new(rt.alloc()),
             own: None,
         }
+    }
+
+    /// Takes the folder for this device alone, where it hasn't yet. While another device has it, each call fails so.
+    pub fn enter(&mut self) -> Result<(), Stop>
+        ensures locked { OnOk result (IsSome self.new.own) }
+        ensures held { self.new.held ≡ self.old.held }
+    {
+        if self.own.is_none() {
+            self.own = Some(lock_at(self.rt, self.path.as_str())?);
+        }
+        Ok(())
     }
 
     // The path of a file. An empty path names no folder.
@@ -96,7 +106,9 @@ impl<'a, R: Files + AllocGlobal> Folder<'a, R> {
     fn opened(&mut self, alloc: Global, name: FileName) -> Result<Option<usize>, Stop>
         ensures within { IfOk result (λ found. IfSome found (λ place. place < vec_len self.new.held.files)) }
         ensures named { IfOk result (λ found. IfSome found (IsOpen name self.new.held.files.items)) }
+        ensures locked { OnOk result (IsSome self.new.own) }
     {
+        self.enter()?;
         if let Some(place) = self.held.find(name) {
             return Ok(Some(place));
         }
@@ -108,16 +120,21 @@ impl<'a, R: Files + AllocGlobal> Folder<'a, R> {
         Ok(Some(self.held.add(name, file)))
     }
 
-    /// Makes a new empty file, in place of one that had the name.
-    pub fn create(&mut self, alloc: Global, name: FileName) -> Result<(), Stop>
-        ensures { OnOk result ((place : ℕ) × IsOpen name self.new.held.files.items place) }
+    /// Makes a new empty file, in place of one that had the name, and says how many bytes that one had.
+    pub fn create(&mut self, alloc: Global, name: FileName) -> Result<u64, Stop>
+        ensures open { OnOk result ((place : ℕ) × IsOpen name self.new.held.files.items place) }
+        ensures kept { OnErr result (filter is_unsettled self.new.held.files.items ≡ filter is_unsettled self.old.held.files.items) }
+        ensures locked { OnOk result (IsSome self.new.own) }
     {
+        self.enter()?;
         let path = self.path_of(alloc, name)?;
+        let mut spare = path.clone()?;
+        spare.push_str(".new")?;
         self.held.make_room()?;
+        let (file, freed) = make_at(self.rt, path.as_str(), spare.as_str())?;
         self.held.close(name);
-        let file = make_at(self.rt, path.as_str())?;
         self.held.add(name, file);
-        Ok(())
+        Ok(freed)
     }
 
     /// The place of an open file that takes bytes. One that is absent and one whose cut isn't firm take none.
@@ -125,6 +142,7 @@ impl<'a, R: Files + AllocGlobal> Folder<'a, R> {
         ensures within { IfOk result (λ place. place < vec_len self.new.held.files) }
         ensures named { IfOk result (IsOpen name self.new.held.files.items) }
         ensures uncut { IfOk result (λ place. IsSomeAnd (slice_get self.new.held.files.items place) (λ held. held.cut ≡ false)) }
+        ensures locked { OnOk result (IsSome self.new.own) }
     {
         let Some(place) = self.opened(alloc, name)? else {
             return Err(Stop::Host);
@@ -139,7 +157,7 @@ impl<'a, R: Files + AllocGlobal> Folder<'a, R> {
     pub fn append(&mut self, place: usize, bytes: &[u8]) -> Result<(), Stop>
         requires { place < vec_len self.old.held.files }
         ensures unsynced { IsSomeAnd (slice_get self.new.held.files.items place) (λ held. held.unsynced ≡ true) }
-        ensures written { OnOk result (IfSome (slice_get self.old.held.files.items place) (λ before. IfSome (slice_get self.new.held.files.items place) (λ after. Appends (R.File.contents before.file) (R.File.contents after.file) bytes.now))) }
+        ensures locked { self.new.own ≡ self.old.own }
     {
         let held = &mut self.held.files[place];
         held.append(bytes)
@@ -147,7 +165,8 @@ impl<'a, R: Files + AllocGlobal> Folder<'a, R> {
 
     /// Makes the bytes of a file durable, by the descriptor that took them.
     pub fn sync(&mut self, alloc: Global, name: FileName) -> Result<(), Stop>
-        ensures { OnOk result ((place : ℕ) × IsSynced name self.new.held.files.items place) }
+        ensures synced { OnOk result ((place : ℕ) × IsSynced name self.new.held.files.items place) }
+        ensures locked { OnOk result (IsSome self.new.own) }
     {
         let Some(place) = self.opened(alloc, name)? else {
             return Err(Stop::Host);
@@ -158,55 +177,62 @@ impl<'a, R: Files + AllocGlobal> Folder<'a, R> {
         Ok(())
     }
 
-    /// Gives a file another name, in place of a file that had it.
-    pub fn rename(&mut self, alloc: Global, from: FileName, to: FileName) -> Result<(), Stop>
-        ensures { OnOk result (self.new.held.files.items ≡ renamed from to self.old.held.files.items) }
+    /// Gives a file another name, in place of a file that had it, and says how many bytes that one had. Behind a
+    /// failure each open file stays open under its name.
+    pub fn rename(&mut self, alloc: Global, from: FileName, to: FileName) -> Result<u64, Stop>
+        ensures ok { OnOk result (self.new.held.files.items ≡ renamed from to self.old.held.files.items) }
+        ensures err { OnErr result (self.new.held ≡ self.old.held) }
+        ensures locked { OnOk result (IsSome self.new.own) }
     {
+        self.enter()?;
         let source = self.path_of(alloc, from)?;
         let target = self.path_of(alloc, to)?;
-        if let Err(stop) = rename_at(self.rt, source.as_str(), target.as_str()) {
-            // it may be done or not, so neither name says which file is open
-            self.held.close(from);
-            self.held.close(to);
-            return Err(stop);
-        }
+        let freed = rename_at(self.rt, source.as_str(), target.as_str())?;
         self.held.rename(from, to);
-        Ok(())
+        Ok(freed)
     }
 
-    /// Takes a file away, where it is there.
-    pub fn remove(&mut self, alloc: Global, name: FileName) -> Result<(), Stop>
-        ensures { OnOk result (self.new.held.files.items ≡ without name self.old.held.files.items) }
+    /// Takes a file away, where it is there, and says how many bytes it had. It is closed only behind that, since its
+    /// bytes may wait for a sync.
+    pub fn remove(&mut self, alloc: Global, name: FileName) -> Result<u64, Stop>
+        ensures ok { OnOk result (self.new.held.files.items ≡ without name self.old.held.files.items) }
+        ensures err { OnErr result (self.new.held ≡ self.old.held) }
+        ensures locked { OnOk result (IsSome self.new.own) }
     {
+        self.enter()?;
         let path = self.path_of(alloc, name)?;
+        let freed = remove_at(self.rt, path.as_str())?;
         self.held.close(name);
-        remove_at(self.rt, path.as_str())
+        Ok(freed)
     }
 
-    /// Keeps the first bytes of a file that is longer.
-    pub fn cut(&mut self, alloc: Global, name: FileName, length: u64) -> Result<(), Stop> {
+    /// Keeps the first bytes of a file that is longer, and says how many others it had.
+    pub fn cut(&mut self, alloc: Global, name: FileName, length: u64) -> Result<u64, Stop>
+        ensures { OnOk result (IsSome self.new.own) }
+    {
         let Some(place) = self.opened(alloc, name)? else {
             return Err(Stop::Host);
         };
         let held = &mut self.held.files[place];
-        if held.file.metadata()?.len() > length {
-            held.cut = true;
-            held.file.set_len(length)?;
+        let had = held.file.metadata()?.len();
+        if had <= length {
+            return Ok(0);
         }
-        Ok(())
+        held.cut = true;
+        held.file.set_len(length)?;
+        Ok(had - length)
     }
 
     /// Makes the changes of names durable, and then the cuts.
     pub fn sync_all(&mut self) -> Result<(), Stop>
-        ensures { OnOk result (All (λ held. held.cut ≡ false) self.new.held.files.items) }
+        ensures cuts { OnOk result (All (λ held. held.cut ≡ false) self.new.held.files.items) }
+        ensures locked { OnOk result (IsSome self.new.own) }
     {
-        let own = match self.own.take() {
-            Some(own) => own,
-            None => fs::open(self.rt, self.path.as_str())?,
+        self.enter()?;
+        let Some(own) = &self.own else {
+            return Err(Stop::Host);
         };
-        let done = own.sync_all();
-        self.own = Some(own);
-        done?;
+        own.sync_all()?;
         self.held.sync_cuts()
     }
 
@@ -218,7 +244,8 @@ impl<'a, R: Files + AllocGlobal> Folder<'a, R> {
         place: u64,
         most: u32,
     ) -> Result<Option<Bytes>, Stop>
-        ensures { IfOk result (λ found. IfSome found (λ bytes. length bytes ≤ most)) }
+        ensures few { IfOk result (λ found. IfSome found (λ bytes. length bytes ≤ most)) }
+        ensures locked { OnOk result (IsSome self.new.own) }
     {
         let Some(at) = self.opened(alloc, name)? else {
             return Ok(None);
@@ -228,7 +255,10 @@ impl<'a, R: Files + AllocGlobal> Folder<'a, R> {
     }
 
     /// How many bytes a file has. `None` comes where the name is absent.
-    pub fn size(&mut self, alloc: Global, name: FileName) -> Result<Option<u64>, Stop> {
+    pub fn size(&mut self, alloc: Global, name: FileName) -> Result<Option<u64>, Stop>
+        ensures { OnOk result (IsSome self.new.own) }
+    {
+        self.enter()?;
         if let Some(place) = self.held.find(name) {
             return Ok(Some(self.held.files[place].file.metadata()?.len()));
         }
@@ -237,9 +267,12 @@ impl<'a, R: Files + AllocGlobal> Folder<'a, R> {
     }
 
     /// The store's files.
-    pub fn files(&self, alloc: Global) -> Result<Vec<Spelled>, Stop>
-        ensures { IfOk result (λ files. AreNames files.items) }
+    pub fn files(&mut self, alloc: Global) -> Result<Vec<Spelled>, Stop>
+        ensures names { IfOk result (λ files. AreNames files.items) }
+        ensures locked { OnOk result (IsSome self.new.own) }
+        ensures held { self.new.held ≡ self.old.held }
     {
+        self.enter()?;
         files_in(self.rt, alloc, self.path.as_str())
     }
 }

@@ -10,19 +10,27 @@ use std::io;
 /// Why a call wasn't done.
 #[derive(Clone, Copy, Debug, PartialEq, Eq)]
 pub enum Stop {
-    /// The host failed, whatever it says of it.
+    /// The host failed, whatever it says of it, but for want of room.
     Host,
+    /// The host has no room: its storage is full, or a quota is exceeded.
+    Full,
     /// Memory was refused, and nothing was done.
     OutOfMemory,
 }
 
 impl From<io::Error> for Stop {
-    ghost use Rattle.keel_dirdisk.specs.declared.stop.Stop.TheVariants.{Host};
+    ghost use Rattle.std.specs.IoError.{error_kind};
+    ghost use Rattle.keel_dirdisk.specs.Answers.{IsStopOf};
 
-    ghost from_gives = { λ _ stop. stop ≡ Host };
+    ghost from_gives = { λ error stop. IsStopOf (error_kind error) stop };
 
-    fn from(_: io::Error) -> Self {
-        Stop::Host
+    fn from(error: io::Error) -> Self {
+        let kind = error.kind();
+        if kind == io::ErrorKind::StorageFull || kind == io::ErrorKind::QuotaExceeded {
+            Stop::Full
+        } else {
+            Stop::Host
+        }
     }
 }
 
@@ -64,6 +72,7 @@ impl From<Stop> for DiskError {
     fn from(stop: Stop) -> Self {
         match stop {
             Stop::Host => DiskError::Fault(Fault::Plain),
+            Stop::Full => DiskError::Fault(Fault::NoSpace),
             Stop::OutOfMemory => DiskError::OutOfMemory,
         }
     }

@@ -2,7 +2,7 @@
 ghost use Rattle.std.specs.Prelude.{◌≡◌, ◌≢◌, IfSome, None};
 ghost use Rattle.keel_base.specs.declared.failure.Fault.TheVariants.{SpaceLimit};
 ghost use Rattle.keel_disk.specs.Counts.{FaultCounted, counted, disk_fault, read_fault};
-ghost use Rattle.keel_dirdisk.specs.Answers.{read_answer_of, IsPlain};
+ghost use Rattle.keel_dirdisk.specs.Answers.{read_answer_of, IsPlainOrFull};
 
 use crate::stop::Stop;
 use keel_base::Fault;
@@ -77,7 +77,7 @@ impl Tally {
     pub fn read<T>(&mut self, outcome: Result<Option<T>, Stop>) -> Result<T, ReadError>
         ensures answer { result ≡ read_answer_of outcome }
         ensures cause { FaultCounted self.old.faults self.new.faults self.new.last_fault (read_fault result) }
-        ensures plain { IsPlain (read_fault result) }
+        ensures plain { IsPlainOrFull (read_fault result) }
         ensures changes { self.new.changes ≡ self.old.changes }
     {
         match outcome {
@@ -87,6 +87,10 @@ impl Tally {
             Err(Stop::Host) => {
                 self.note(Fault::Plain);
                 Err(ReadError::Fault(Fault::Plain))
+            }
+            Err(Stop::Full) => {
+                self.note(Fault::NoSpace);
+                Err(ReadError::Fault(Fault::NoSpace))
             }
         }
     }
