@@ -1,6 +1,7 @@
 // The top call: a workload is read, carried out and answered.
 ghost use Rattle.std.specs.Prelude.{◌≡◌, ◌⊎◌, ◌↔◌, IfOk, IsTrue, map};
 ghost use Rattle.std.specs.String.{string_bytes};
+ghost use Rattle.keel_lines.specs.Inputs.{TakesFew};
 ghost use Rattle.keel_cli.specs.declared.top.End.{End};
 ghost use Rattle.keel_cli.specs.Ends.{Ends, NamesNoLine, StaysOrRunsOut, named, outside, message_of, status_of, Tells};
 ghost use Rattle.keel_cli.specs.Places.{shown_by};
@@ -56,6 +57,7 @@ fn work<S: Source, K: Sink, V: Device>(
     ensures ends { Ends result.end
         (outside (S.remaining source) (S.faults source) (K.held out.old) (K.faults out.old) (shown_by V.told V.changes V.faults V.last_fault V.is_simulated device))
         (outside (S.remaining result.source) (S.faults result.source) (K.held out.new) (K.faults out.new) (shown_by V.told V.changes V.faults V.last_fault V.is_simulated result.device)) }
+    ensures taken { TakesFew (S.remaining source) (S.remaining result.source) }
 {
     if ask_for_run(words) {
         carry_lines(alloc, source, out, device)
@@ -159,6 +161,8 @@ pub fn run_words<S: Source, K: Sink, E: Sink, V: Device>(
         (outside (S.remaining result.source) (S.faults result.source) (K.held result.out) (K.faults result.out) (shown_by V.told V.changes V.faults V.last_fault V.is_simulated result.device))
         × Tells (message_of end) (E.held err) (E.faults err) (E.held result.err) (E.faults result.err) }
     ensures usage { (result.status ≡ 2) ↔ ¬ AskForRun (map string_bytes words.now.items) }
+    // Of the source at most as many bytes were taken as an input may have, and one piece of it.
+    ensures taken { TakesFew (S.remaining source) (S.remaining result.source) }
 {
     let mut out = out;
     let mut err = err;
