@@ -5,7 +5,7 @@ ghost use Rattle.keel_settings.specs.Values.{AreDefaults};
 ghost use Rattle.keel_cli.specs.declared.place.Place.TheVariants.{Closed};
 ghost use Rattle.keel_recovery.specs.Machine.{IsCovered};
 ghost use Rattle.keel_cli.specs.Driving.{DriverLeads, Drives, StandsAt};
-ghost use Rattle.keel_cli.specs.Places.{IsTidy, is_one_open, shown_by};
+ghost use Rattle.keel_cli.specs.Places.{IsTidy, is_one_open};
 ghost use Rattle.keel_cli.specs.Runs.{Carries, IsOnStore};
 ghost use Rattle.keel_cli.specs.Sessions.{Session};
 
@@ -58,8 +58,8 @@ impl<V: Device> Driver<V> {
     // Sets an option, where no store is open.
     fn set_option(&mut self, name: OptionName, value: u64) -> Reply
         ensures place { self.new.place ≡ self.old.place }
-        ensures out { (session : Session) → StandsAt (shown_by V.told V.changes V.faults V.last_fault V.is_simulated) self.old session
-            → DriverLeads (shown_by V.told V.changes V.faults V.last_fault V.is_simulated) self.new (Carries session (command.SetOption name value) (result ∷ [])) }
+        ensures out { (session : Session) → StandsAt V.seen self.old session
+            → DriverLeads V.seen self.new (Carries session (command.SetOption name value) (result ∷ [])) }
     {
         if self.is_open() {
             return Reply::IsOpen;
@@ -77,8 +77,8 @@ impl<V: Device> Driver<V> {
     // Lets ticks pass.
     fn pass(&mut self, ticks: u64) -> Reply
         ensures place { self.new.place ≡ self.old.place }
-        ensures out { (session : Session) → StandsAt (shown_by V.told V.changes V.faults V.last_fault V.is_simulated) self.old session
-            → DriverLeads (shown_by V.told V.changes V.faults V.last_fault V.is_simulated) self.new (Carries session (command.Tick ticks) (result ∷ [])) }
+        ensures out { (session : Session) → StandsAt V.seen self.old session
+            → DriverLeads V.seen self.new (Carries session (command.Tick ticks) (result ∷ [])) }
     {
         self.tick = self.tick.saturating_add(ticks);
         Reply::Now { tick: self.tick }
@@ -87,8 +87,8 @@ impl<V: Device> Driver<V> {
     // The reply to a command on the driver's own values; other commands are the store's.
     fn own_reply(&mut self, command: &Command) -> Option<Reply>
         ensures place { self.new.place ≡ self.old.place }
-        ensures out { (session : Session) → StandsAt (shown_by V.told V.changes V.faults V.last_fault V.is_simulated) self.old session → IfSome result (λ reply.
-            DriverLeads (shown_by V.told V.changes V.faults V.last_fault V.is_simulated) self.new (Carries session command.now (reply ∷ []))) }
+        ensures out { (session : Session) → StandsAt V.seen self.old session → IfSome result (λ reply.
+            DriverLeads V.seen self.new (Carries session command.now (reply ∷ []))) }
         ensures none { IfNone result (IsOnStore command.now) }
         ensures same { IfNone result (self.new ≡ self.old) }
     {
@@ -104,8 +104,8 @@ impl<V: Device> Driver<V> {
 pub fn carry_out<V: Device>(alloc: Global, driver: Driver<V>, command: &Command) -> Driven<V>
     requires tidy { IsTidy driver.place }
     ensures tidy { IsTidy result.driver.place }
-    ensures out { (session : Session) → StandsAt (shown_by V.told V.changes V.faults V.last_fault V.is_simulated) driver session → IsCovered session.store
-        → Drives (shown_by V.told V.changes V.faults V.last_fault V.is_simulated) session command.now result.driver result.answer }
+    ensures out { (session : Session) → StandsAt V.seen driver session → IsCovered session.store
+        → Drives V.seen session command.now result.driver result.answer }
 {
     let mut driver = driver;
     if let Some(reply) = driver.own_reply(command) {

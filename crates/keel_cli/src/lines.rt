@@ -7,7 +7,7 @@ ghost use Rattle.keel_cli.specs.Ends.{CommandEnds, LineEnds, Ends, IsUnwritten, 
 ghost use Rattle.keel_lines.specs.Inputs.{TakesFew};
 ghost use Rattle.keel_lines.specs.Lines.{longest_line};
 ghost use Rattle.keel_cli.specs.declared.top.End.TheVariants.{Usage};
-ghost use Rattle.keel_cli.specs.Places.{IsTidy, shown_by};
+ghost use Rattle.keel_cli.specs.Places.{IsTidy};
 ghost use Rattle.keel_cli.specs.Sessions.{Session};
 
 use crate::{Driven, Driver, End, carry_out, finish, text_of};
@@ -59,8 +59,8 @@ fn carry_command<K: Sink, V: Device>(
 ) -> LineDone<V>
     requires tidy { IsTidy driver.place }
     ensures tidy { IsTidy result.driver.place }
-    ensures end { (now : Session) → StandsAt (shown_by V.told V.changes V.faults V.last_fault V.is_simulated) driver now → IsCovered now.store
-        → LineLeads (shown_by V.told V.changes V.faults V.last_fault V.is_simulated) result.stop result.driver (λ new.
+    ensures end { (now : Session) → StandsAt V.seen driver now → IsCovered now.store
+        → LineLeads V.seen result.stop result.driver (λ new.
         CommandEnds result.stop now (K.held out.old) command.now new (K.held out.new)) }
     ensures later { K.faults out.old ≤ K.faults out.new }
     ensures cause { IsUnwritten result.stop → Rose (K.faults out.old) (K.faults out.new) }
@@ -97,8 +97,8 @@ fn carry_line<K: Sink, V: Device>(
     requires short { length line.now ≤ longest_line }
     requires tidy { IsTidy driver.place }
     ensures tidy { IsTidy result.driver.place }
-    ensures end { (now : Session) → StandsAt (shown_by V.told V.changes V.faults V.last_fault V.is_simulated) driver now → IsCovered now.store
-        → LineLeads (shown_by V.told V.changes V.faults V.last_fault V.is_simulated) result.stop result.driver (λ new.
+    ensures end { (now : Session) → StandsAt V.seen driver now → IsCovered now.store
+        → LineLeads V.seen result.stop result.driver (λ new.
         LineEnds result.stop now (K.held out.old) line.now new (K.held out.new)) }
     ensures later { K.faults out.old ≤ K.faults out.new }
     ensures cause { IsUnwritten result.stop → Rose (K.faults out.old) (K.faults out.new) }
@@ -151,8 +151,8 @@ pub fn carry_lines<S: Source, K: Sink, V: Device>(
     device: V,
 ) -> LinesDone<S, V>
     ensures end { Ends result.end
-        (outside (S.remaining source) (S.faults source) (K.held out.old) (K.faults out.old) (shown_by V.told V.changes V.faults V.last_fault V.is_simulated device))
-        (outside (S.remaining result.source) (S.faults result.source) (K.held out.new) (K.faults out.new) (shown_by V.told V.changes V.faults V.last_fault V.is_simulated result.device)) }
+        (outside (S.remaining source) (S.faults source) (K.held out.old) (K.faults out.old) (V.seen device))
+        (outside (S.remaining result.source) (S.faults result.source) (K.held out.new) (K.faults out.new) (V.seen result.device)) }
     ensures ran { result.end ≢ Usage }
     ensures taken { TakesFew (S.remaining source) (S.remaining result.source) }
 {

@@ -7,7 +7,7 @@ ghost use Rattle.keel_recovery.specs.Machine.{IsCovered};
 ghost use Rattle.keel_script.specs.declared.command.Command.TheVariants as command;
 ghost use Rattle.keel_cli.specs.declared.answer.Answer.TheVariants as answers;
 ghost use Rattle.keel_cli.specs.Cuts.{CarriedOut};
-ghost use Rattle.keel_cli.specs.Places.{AreTold, IsShut, IsTidy, Stands, device_of, shown_by};
+ghost use Rattle.keel_cli.specs.Places.{AreTold, IsShut, IsTidy, Stands, device_of};
 ghost use Rattle.keel_cli.specs.Replies.{replies_of};
 ghost use Rattle.keel_cli.specs.Runs.{listing_replies, opening_replies, rest_reply, writes};
 ghost use Rattle.keel_disk.specs.declared.error.DiskError.TheVariants as disk;
@@ -73,8 +73,8 @@ fn refusal_reply(refusal: OpenRefusal) -> Result<Reply, OutOfMemory>
 
 fn open_store<V: Device>(alloc: Global, device: V) -> Carried<V>
     ensures tidy { IsTidy result.place }
-    ensures out { (s : State) → IsShut (shown_by V.told V.changes V.faults V.last_fault V.is_simulated device) s → IsCovered s
-        → CarriedOut (shown_by V.told V.changes V.faults V.last_fault V.is_simulated) s command.Open result.place result.answer }
+    ensures out { (s : State) → IsShut (V.seen device) s → IsCovered s
+        → CarriedOut V.seen s command.Open result.place result.answer }
 {
     match Core::open(alloc, device) {
         Ok(core) => {
@@ -95,7 +95,7 @@ fn read_key<V: Device>(alloc: Global, core: Core<V>, key: &Bytes) -> Carried<V>
     requires { AreTold core.outcomes }
     ensures tidy { IsTidy result.place }
     ensures out { (s : State) → StandsFor core s
-        → CarriedOut (shown_by V.told V.changes V.faults V.last_fault V.is_simulated) s (command.Get key.now) result.place result.answer }
+        → CarriedOut V.seen s (command.Get key.now) result.place result.answer }
 {
     let mut core = core;
     match core.get(alloc, key.as_slice()) {
@@ -119,7 +119,7 @@ fn scan_keys<V: Device>(alloc: Global, core: Core<V>, from: &Bytes, to: &Bytes) 
     requires { AreTold core.outcomes }
     ensures tidy { IsTidy result.place }
     ensures out { (s : State) → StandsFor core s
-        → CarriedOut (shown_by V.told V.changes V.faults V.last_fault V.is_simulated) s (command.Scan from.now to.now) result.place result.answer }
+        → CarriedOut V.seen s (command.Scan from.now to.now) result.place result.answer }
 {
     let mut core = core;
     match core.scan(alloc, from.as_slice(), to.as_slice()) {
@@ -151,7 +151,7 @@ fn list_open<V: Device>(alloc: Global, core: Core<V>) -> Carried<V>
     requires { AreTold core.outcomes }
     ensures tidy { IsTidy result.place }
     ensures out { (s : State) → StandsFor core s
-        → CarriedOut (shown_by V.told V.changes V.faults V.last_fault V.is_simulated) s command.Files result.place result.answer }
+        → CarriedOut V.seen s command.Files result.place result.answer }
 {
     let mut core = core;
     let listed = core.list(alloc);
@@ -164,8 +164,8 @@ fn list_open<V: Device>(alloc: Global, core: Core<V>) -> Carried<V>
 // The files of the directory while no store is open.
 fn list_closed<V: Device>(alloc: Global, device: V) -> Carried<V>
     ensures tidy { IsTidy result.place }
-    ensures out { (s : State) → IsShut (shown_by V.told V.changes V.faults V.last_fault V.is_simulated device) s
-        → CarriedOut (shown_by V.told V.changes V.faults V.last_fault V.is_simulated) s command.Files result.place result.answer }
+    ensures out { (s : State) → IsShut (V.seen device) s
+        → CarriedOut V.seen s command.Files result.place result.answer }
 {
     let mut device = device;
     let listed = device.list(alloc);
@@ -177,10 +177,10 @@ fn list_closed<V: Device>(alloc: Global, device: V) -> Carried<V>
 
 // Crashes a simulated device, whose store was dropped.
 fn crash_device<V: Device>(alloc: Global, device: V, pick: Pick) -> Carried<V>
-    requires { V.is_simulated device ≡ true }
+    requires { (V.seen device).simulated ≡ true }
     ensures tidy { IsTidy result.place }
-    ensures out { (s : State) → s.device ≡ shown_by V.told V.changes V.faults V.last_fault V.is_simulated device → IsCovered s
-        → CarriedOut (shown_by V.told V.changes V.faults V.last_fault V.is_simulated) s (command.Crash pick.dirops pick.keep pick.garbage pick.seed) result.place result.answer }
+    ensures out { (s : State) → s.device ≡ V.seen device → IsCovered s
+        → CarriedOut V.seen s (command.Crash pick.dirops pick.keep pick.garbage pick.seed) result.place result.answer }
 {
     let mut device = device;
     match device.crash(alloc, pick) {
@@ -217,8 +217,8 @@ fn rest_reply(is_open: bool, command: &Command) -> Option<Reply>
 // A command while no store is open.
 fn carry_closed<V: Device>(alloc: Global, device: V, command: &Command) -> Carried<V>
     ensures tidy { IsTidy result.place }
-    ensures out { (s : State) → IsShut (shown_by V.told V.changes V.faults V.last_fault V.is_simulated device) s → IsCovered s
-        → CarriedOut (shown_by V.told V.changes V.faults V.last_fault V.is_simulated) s command.now result.place result.answer }
+    ensures out { (s : State) → IsShut (V.seen device) s → IsCovered s
+        → CarriedOut V.seen s command.now result.place result.answer }
 {
     if let Some(reply) = rest_reply(false, command) {
         return Carried {
@@ -259,7 +259,7 @@ fn carry_write<V: Device>(alloc: Global, core: Core<V>, command: &Command) -> Ca
     requires write { writes command.now ≡ true }
     ensures tidy { IsTidy result.place }
     ensures out { (s : State) → StandsFor core s
-        → CarriedOut (shown_by V.told V.changes V.faults V.last_fault V.is_simulated) s command.now result.place result.answer }
+        → CarriedOut V.seen s command.now result.place result.answer }
 {
     let mut core = core;
     match command {
@@ -319,7 +319,7 @@ fn crash_store<V: Device>(alloc: Global, core: Core<V>, pick: Pick) -> Carried<V
     requires { AreTold core.outcomes }
     ensures tidy { IsTidy result.place }
     ensures out { (s : State) → StandsFor core s → IsCovered s
-        → CarriedOut (shown_by V.told V.changes V.faults V.last_fault V.is_simulated) s (command.Crash pick.dirops pick.keep pick.garbage pick.seed) result.place result.answer }
+        → CarriedOut V.seen s (command.Crash pick.dirops pick.keep pick.garbage pick.seed) result.place result.answer }
 {
     if !core.simulated() {
         return Carried {
@@ -335,7 +335,7 @@ fn carry_open<V: Device>(alloc: Global, core: Core<V>, command: &Command) -> Car
     requires { AreTold core.outcomes }
     ensures tidy { IsTidy result.place }
     ensures out { (s : State) → StandsFor core s → IsCovered s
-        → CarriedOut (shown_by V.told V.changes V.faults V.last_fault V.is_simulated) s command.now result.place result.answer }
+        → CarriedOut V.seen s command.now result.place result.answer }
 {
     if let Some(reply) = rest_reply(true, command) {
         return Carried {
@@ -369,8 +369,8 @@ fn carry_open<V: Device>(alloc: Global, core: Core<V>, command: &Command) -> Car
 pub fn carry_on_store<V: Device>(alloc: Global, place: Place<V>, command: &Command) -> Carried<V>
     requires tidy { IsTidy place }
     ensures tidy { IsTidy result.place }
-    ensures out { (s : State) → Stands (shown_by V.told V.changes V.faults V.last_fault V.is_simulated) place s → IsCovered s
-        → CarriedOut (shown_by V.told V.changes V.faults V.last_fault V.is_simulated) s command.now result.place result.answer }
+    ensures out { (s : State) → Stands V.seen place s → IsCovered s
+        → CarriedOut V.seen s command.now result.place result.answer }
 {
     match place {
         Place::Closed(device) => carry_closed(alloc, device, command),
@@ -380,8 +380,8 @@ pub fn carry_on_store<V: Device>(alloc: Global, place: Place<V>, command: &Comma
 
 /// Hands the device back.
 pub fn finish<V: Device>(place: Place<V>) -> V
-    ensures { shown_by V.told V.changes V.faults V.last_fault V.is_simulated result
-        ≡ device_of (shown_by V.told V.changes V.faults V.last_fault V.is_simulated) place }
+    ensures { V.seen result
+        ≡ device_of V.seen place }
 {
     match place {
         Place::Closed(device) => device,

@@ -4,7 +4,6 @@ ghost use Rattle.std.specs.String.{string_bytes};
 ghost use Rattle.keel_lines.specs.Inputs.{TakesFew};
 ghost use Rattle.keel_cli.specs.declared.top.End.{End};
 ghost use Rattle.keel_cli.specs.Ends.{Ends, NamesNoLine, StaysOrRunsOut, named, outside, message_of, status_of, Tells};
-ghost use Rattle.keel_cli.specs.Places.{shown_by};
 ghost use Rattle.keel_cli.specs.Words.{AskForRun, IsPath};
 
 use crate::{LinesDone, carry_lines};
@@ -72,8 +71,8 @@ fn work<S: Source, K: Sink, V: Device>(
 ) -> LinesDone<S, V>
     ensures usage { (result.end ≡ End.Usage) ↔ ¬ AskForRun (map string_bytes words.now.items) }
     ensures ends { Ends result.end
-        (outside (S.remaining source) (S.faults source) (K.held out.old) (K.faults out.old) (shown_by V.told V.changes V.faults V.last_fault V.is_simulated device))
-        (outside (S.remaining result.source) (S.faults result.source) (K.held out.new) (K.faults out.new) (shown_by V.told V.changes V.faults V.last_fault V.is_simulated result.device)) }
+        (outside (S.remaining source) (S.faults source) (K.held out.old) (K.faults out.old) (V.seen device))
+        (outside (S.remaining result.source) (S.faults result.source) (K.held out.new) (K.faults out.new) (V.seen result.device)) }
     ensures taken { TakesFew (S.remaining source) (S.remaining result.source) }
 {
     if ask_for_run(words) {
@@ -174,8 +173,8 @@ pub fn run_words<S: Source, K: Sink, E: Sink, V: Device>(
     // The status says how the run ended, what was done is what that end says, and err has its text.
     ensures ends { (end : End) × (result.status ≡ status_of end)
         × Ends end
-        (outside (S.remaining source) (S.faults source) (K.held out) (K.faults out) (shown_by V.told V.changes V.faults V.last_fault V.is_simulated device))
-        (outside (S.remaining result.source) (S.faults result.source) (K.held result.out) (K.faults result.out) (shown_by V.told V.changes V.faults V.last_fault V.is_simulated result.device))
+        (outside (S.remaining source) (S.faults source) (K.held out) (K.faults out) (V.seen device))
+        (outside (S.remaining result.source) (S.faults result.source) (K.held result.out) (K.faults result.out) (V.seen result.device))
         × Tells (message_of end) (E.held err) (E.faults err) (E.held result.err) (E.faults result.err) }
     ensures usage { (result.status ≡ 2) ↔ ¬ AskForRun (map string_bytes words.now.items) }
     // Of the source at most as many bytes were taken as an input may have, and one piece of it.

@@ -1,5 +1,4 @@
 use Rattle.std.proofs.Common.{Err, refl, ap, inl}
-use Rattle.keel_cli.specs.Places.{shown_by}
 use Rattle.keel_cli.proofs.Ending.{leaves_now, line_of_command}
 use Rattle.keel_cli.proofs.GoingOn.{Progress-blank}
 use Rattle.keel_cli.proofs.lines.carry_line.Goals as goal
@@ -10,12 +9,12 @@ returns-then-is_blank-clause-end g c now stands covered =
 
 pub returns-in-Ok-clause-end : goal.returns-in-Ok-clause-end
 returns-in-Ok-clause-end g c now stands covered =
-    line_of_command g.row.V.Denot (shown_by g.V.Disk.told g.V.Disk.changes g.V.Disk.faults g.V.Disk.last_fault g.V.Disk.is_simulated) c.carry_command.result.stop now c.carry_command.result.driver _ _ c.args.line.now c.in-Ok.command c.requires.short c.in-Ok.ensures.found
+    line_of_command g.row.V.Denot g.V.Disk.seen c.carry_command.result.stop now c.carry_command.result.driver _ _ c.args.line.now c.in-Ok.command c.requires.short c.in-Ok.ensures.found
     (c.carry_command.ensures.end now stands covered)
 
 pub returns-in-Err-NotACommand-clause-end : goal.returns-in-Err-NotACommand-clause-end
 returns-in-Err-NotACommand-clause-end g c now stands covered =
-    leaves_now g.row.V.Denot (shown_by g.V.Disk.told g.V.Disk.changes g.V.Disk.faults g.V.Disk.last_fault g.V.Disk.is_simulated) c.args.driver now stands (
+    leaves_now g.row.V.Denot g.V.Disk.seen c.args.driver now stands (
       record {
         short = c.requires.short;
         not_blank = λ blank. let is = c.if-is_blank.ensures.1 blank in absurd cc;
@@ -26,4 +25,4 @@ returns-in-Err-NotACommand-clause-end g c now stands covered =
     )
 
 pub returns-in-Err-OutOfMemory-clause-end : goal.returns-in-Err-OutOfMemory-clause-end
-returns-in-Err-OutOfMemory-clause-end g c now stands covered = leaves_now g.row.V.Denot (shown_by g.V.Disk.told g.V.Disk.changes g.V.Disk.faults g.V.Disk.last_fault g.V.Disk.is_simulated) c.args.driver now stands (inl refl, refl)
+returns-in-Err-OutOfMemory-clause-end g c now stands covered = leaves_now g.row.V.Denot g.V.Disk.seen c.args.driver now stands (inl refl, refl)

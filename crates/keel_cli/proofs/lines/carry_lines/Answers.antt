@@ -2,7 +2,6 @@ use Rattle.std.proofs.Common.{◌≡◌, ℕ, ◌+◌, List, [], ◌∷◌, ◌+
 use Rattle.keel_lines.specs.Calls.{GivesLine, IsFinished, IsHeld}
 use Rattle.keel_lines.proofs.Deliveries.{adds_line, ends_lines, holds_lines}
 use Rattle.keel_machine.specs.States.{Seen}
-use Rattle.keel_cli.specs.Places.{shown_by}
 use Rattle.keel_cli.specs.Sessions.{Session, unopened}
 use Rattle.keel_cli.proofs.Ending.{device_as}
 use Rattle.keel_cli.proofs.Running.{run_begins, run_goes_on, run_stops, run_ends}
@@ -11,7 +10,7 @@ use Rattle.keel_cli.proofs.lines.carry_lines.Goals as goal
 
 pub lines-init : goal.lines-init
 lines-init g c =
-    let shows : Seen = (shown_by g.V.Disk.told g.V.Disk.changes g.V.Disk.faults g.V.Disk.last_fault g.V.Disk.is_simulated) c.args.device in
+    let shows : Seen = g.V.Disk.seen c.args.device in
     let made = c.new-driver.ensures in
     let e = c.new-reader.ensures in
     record {
@@ -34,8 +33,8 @@ lines-init g c =
 pub returns-in-Ok-None-clause-end : goal.returns-in-Ok-None-clause-end
 returns-in-Ok-None-clause-end g c =
     let inv = c.lines.invariant in
-    let shows : Seen = (shown_by g.V.Disk.told g.V.Disk.changes g.V.Disk.faults g.V.Disk.last_fault g.V.Disk.is_simulated) c.args.device in
-    let back : Seen = (shown_by g.V.Disk.told g.V.Disk.changes g.V.Disk.faults g.V.Disk.last_fault g.V.Disk.is_simulated) c.finish.result in
+    let shows : Seen = g.V.Disk.seen c.args.device in
+    let back : Seen = g.V.Disk.seen c.finish.result in
     let finished : IsFinished c.lines.reader c.next.new.self = c.in-Ok-None.ensures.end (ap Ok c.in-Ok-None.field-0-is) in
     completes (g.S.Source.remaining c.args.source) (g.S.Source.faults c.args.source) (g.K.Sink.held c.args.out.now) (g.K.Sink.faults c.args.out.now) shows inv.lines c.lines.reader c.next.new.self
     inv.given inv.read_later (g.S.Source.remaining c.into_source.result) (g.S.Source.faults c.into_source.result) (g.K.Sink.held c.lines.out) (g.K.Sink.faults c.lines.out) back
@@ -43,7 +42,7 @@ returns-in-Ok-None-clause-end g c =
     (λ footing may.
     let old = inv.so_far footing may in
     run_ends footing shows (g.K.Sink.held c.args.out.now) back may inv.lines (g.K.Sink.held c.lines.out) old.0
-    (c.finish.ensures ∙ device_as g.row.V.Denot (shown_by g.V.Disk.told g.V.Disk.changes g.V.Disk.faults g.V.Disk.last_fault g.V.Disk.is_simulated) c.lines.driver.place old.0.store old.1.store) old.2)
+    (c.finish.ensures ∙ device_as g.row.V.Denot g.V.Disk.seen c.lines.driver.place old.0.store old.1.store) old.2)
 
 pub returns-in-Ok-None-clause-taken : goal.returns-in-Ok-None-clause-taken
 returns-in-Ok-None-clause-taken g c =
@@ -73,8 +72,8 @@ returns-in-Some-clause-taken g c =
 pub returns-in-Err-clause-end : goal.returns-in-Err-clause-end
 returns-in-Err-clause-end g c =
     let inv = c.lines.invariant in
-    let shows : Seen = (shown_by g.V.Disk.told g.V.Disk.changes g.V.Disk.faults g.V.Disk.last_fault g.V.Disk.is_simulated) c.args.device in
-    let back : Seen = (shown_by g.V.Disk.told g.V.Disk.changes g.V.Disk.faults g.V.Disk.last_fault g.V.Disk.is_simulated) c.finish-in-Err.result in
+    let shows : Seen = g.V.Disk.seen c.args.device in
+    let back : Seen = g.V.Disk.seen c.finish-in-Err.result in
     let e = c.in-Err.ensures in
     let held : IsHeld c.lines.reader c.next.new.self = e.err in
     rw c.end_behind.ensures
@@ -85,13 +84,13 @@ returns-in-Err-clause-end g c =
     (λ footing may.
     let old = inv.so_far footing may in
     run_ends footing shows (g.K.Sink.held c.args.out.now) back may inv.lines (g.K.Sink.held c.lines.out) old.0
-    (c.finish-in-Err.ensures ∙ device_as g.row.V.Denot (shown_by g.V.Disk.told g.V.Disk.changes g.V.Disk.faults g.V.Disk.last_fault g.V.Disk.is_simulated) c.lines.driver.place old.0.store old.1.store) old.2))
+    (c.finish-in-Err.ensures ∙ device_as g.row.V.Denot g.V.Disk.seen c.lines.driver.place old.0.store old.1.store) old.2))
 
 pub returns-in-Some-clause-end : goal.returns-in-Some-clause-end
 returns-in-Some-clause-end g c =
     let inv = c.lines.invariant in
-    let shows : Seen = (shown_by g.V.Disk.told g.V.Disk.changes g.V.Disk.faults g.V.Disk.last_fault g.V.Disk.is_simulated) c.args.device in
-    let back : Seen = (shown_by g.V.Disk.told g.V.Disk.changes g.V.Disk.faults g.V.Disk.last_fault g.V.Disk.is_simulated) c.finish-in-Some.result in
+    let shows : Seen = g.V.Disk.seen c.args.device in
+    let back : Seen = g.V.Disk.seen c.finish-in-Some.result in
     let line : List ℕ = c.in-Ok-Some.line in
     let out = c.carry_line-done.new.out in
     let gives : GivesLine c.lines.reader c.next.new.self line = rw c.in-Ok-Some.field-0-is at c.in-Ok-Some.ensures.line in
@@ -110,7 +109,7 @@ returns-in-Some-clause-end g c =
 pub lines-preserved : goal.lines-preserved
 lines-preserved g c =
     let inv = c.lines.invariant in
-    let shows : Seen = (shown_by g.V.Disk.told g.V.Disk.changes g.V.Disk.faults g.V.Disk.last_fault g.V.Disk.is_simulated) c.args.device in
+    let shows : Seen = g.V.Disk.seen c.args.device in
     let line : List ℕ = c.in-Ok-Some.line in
     let out = c.carry_line-done.new.out in
     let gives : GivesLine c.lines.reader c.next.new.self line = rw c.in-Ok-Some.field-0-is at c.in-Ok-Some.ensures.line in

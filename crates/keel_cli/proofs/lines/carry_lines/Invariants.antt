@@ -3,7 +3,7 @@ use Rattle.keel_lines.specs.Delivered.{Delivered}
 use Rattle.keel_lines.specs.Lines.{longest_input}
 use Rattle.keel_machine.specs.States.{Footing}
 use Rattle.keel_cli.specs.Driving.{DriverLeads}
-use Rattle.keel_cli.specs.Places.{IsTidy, shown_by}
+use Rattle.keel_cli.specs.Places.{IsTidy}
 use Rattle.keel_cli.specs.Sessions.{MayBegin}
 use Rattle.keel_cli.proofs.Running.{RunsSoFar}
 use Rattle.keel_cli.proofs.lines.carry_lines.Given as goal
@@ -17,7 +17,7 @@ invariant-lines g l = record {
   few : l.number ≤ l.reader.passed;
   within : l.reader.passed ≤ longest_input;
   so_far : (footing : Footing) → MayBegin footing (g.V.Disk.told l.fn.device)
-      → DriverLeads (shown_by g.V.Disk.told g.V.Disk.changes g.V.Disk.faults g.V.Disk.last_fault g.V.Disk.is_simulated) l.driver (RunsSoFar footing ((shown_by g.V.Disk.told g.V.Disk.changes g.V.Disk.faults g.V.Disk.last_fault g.V.Disk.is_simulated) l.fn.device) (g.K.Sink.held l.fn.out) lines (g.K.Sink.held l.out));
+      → DriverLeads g.V.Disk.seen l.driver (RunsSoFar footing (g.V.Disk.seen l.fn.device) (g.K.Sink.held l.fn.out) lines (g.K.Sink.held l.out));
   tidy : IsTidy l.driver.place;
   later : g.K.Sink.faults l.fn.out ≤ g.K.Sink.faults l.out;
   read_later : g.S.Source.faults l.fn.source ≤ l.reader.faults;

@@ -2,7 +2,6 @@ use Rattle.std.proofs.Common.{false, refl}
 use Rattle.keel_machine.specs.States.{Seen}
 use Rattle.keel_machine.specs.Turns.{after, Listing}
 use Rattle.keel_cli.specs.declared.place.Place.TheVariants.{Closed}
-use Rattle.keel_cli.specs.Places.{shown_by}
 use Rattle.keel_cli.proofs.Carrying.{listed, list_answers}
 use Rattle.keel_cli.proofs.place.list_closed.Goals as goal
 
@@ -10,10 +9,10 @@ pub returns-clause-out : goal.returns-clause-out
 returns-clause-out g c s shut =
     let D = g.V.Disk in
     let device = c.list-listed.new.self in
-    let shows : Seen = shown_by D.told D.changes D.faults D.last_fault D.is_simulated device in
+    let shows : Seen = D.seen device in
     let next = after s (Listing c.list-listed.result) shows in
     let did = c.list-listed.ensures in
-    let answers = list_answers s (shown_by D.told D.changes D.faults D.last_fault D.is_simulated c.args.device) shows c.list-listed.result shut.device
+    let answers = list_answers s (D.seen c.args.device) shows c.list-listed.result shut.device
     did.listing did.order did.same did.count did.cause did.simulated in
-    listed g.row.V.Denot (shown_by g.V.Disk.told g.V.Disk.changes g.V.Disk.faults g.V.Disk.last_fault g.V.Disk.is_simulated) s next (Closed device) false c.list-listed.result c.list_answer.result shut.shut
+    listed g.row.V.Denot g.V.Disk.seen s next (Closed device) false c.list-listed.result c.list_answer.result shut.shut
     (record { shut = shut.shut; device = refl }) refl (answers, refl) c.list_answer.ensures.ok c.list_answer.ensures.err

@@ -1,5 +1,4 @@
 use Rattle.keel_machine.specs.declared.answers.Scanned.TheVariants as scanned
-use Rattle.keel_cli.specs.Places.{shown_by}
 use Rattle.keel_cli.proofs.Carrying.{scan_cut, scan_run, scan_told}
 use Rattle.keel_cli.proofs.place.scan_keys.Goals as goal
 
@@ -8,7 +7,7 @@ returns-in-Rows-clause-tidy g c = scan_told c.args.core c.scan.new.self c.as_sli
 
 pub returns-in-Rows-clause-out : goal.returns-in-Rows-clause-out
 returns-in-Rows-clause-out g c =
-    scan_run g.row.V.Denot (shown_by g.V.Disk.told g.V.Disk.changes g.V.Disk.faults g.V.Disk.last_fault g.V.Disk.is_simulated) c.args.core c.scan.new.self c.args.from.now c.args.to.now c.in-Rows.rows
+    scan_run g.row.V.Denot g.V.Disk.seen c.args.core c.scan.new.self c.args.from.now c.args.to.now c.in-Rows.rows
     (rw (c.as_slice.ensures, c.as_slice-2.ensures) at c.in-Rows.ensures.turn)
 
 pub returns-in-OutOfMemory-clause-tidy : goal.returns-in-OutOfMemory-clause-tidy
@@ -16,5 +15,5 @@ returns-in-OutOfMemory-clause-tidy g c = scan_told c.args.core c.scan.new.self c
 
 pub returns-in-OutOfMemory-clause-out : goal.returns-in-OutOfMemory-clause-out
 returns-in-OutOfMemory-clause-out g c =
-    scan_cut g.row.V.Denot (shown_by g.V.Disk.told g.V.Disk.changes g.V.Disk.faults g.V.Disk.last_fault g.V.Disk.is_simulated) c.args.core c.scan.new.self c.args.from.now c.args.to.now
+    scan_cut g.row.V.Denot g.V.Disk.seen c.args.core c.scan.new.self c.args.from.now c.args.to.now
     (rw (c.as_slice.ensures, c.as_slice-2.ensures) at c.in-OutOfMemory.ensures.turn)
