@@ -1,17 +1,18 @@
 -- From the end of the lines to the end of the run.
-use Rattle.std.proofs.Common.{◌≡◌, ◌↔◌, ℕ, ◌+◌, false, Option, None, Some, List, ◌∷◌, length, ap, refl, subst, inl, inr, arith}
+use Rattle.std.proofs.Common.{◌≡◌, ◌↔◌, ℕ, ◌+◌, false, Option, None, Some, List, ◌∷◌, length, ap, refl, sym, subst, inl, inr, arith}
 use Rattle.keel_base.specs.Counts.{Rose}
 use Rattle.keel_lines.specs.declared.line.LineEnd.{LineEnd}
 use Rattle.keel_lines.specs.declared.line.LineEnd.TheVariants as line_end
 use Rattle.keel_lines.specs.Calls.{LinesView, IsFinished, PassesLine, PassesInput, IsCut}
 use Rattle.keel_lines.specs.Delivered.{Delivered}
+use Rattle.keel_lines.specs.Inputs.{AreFirst, AreAll, AreBeforeLong, AreWithin, AreTaken}
 use Rattle.keel_lines.proofs.Deliveries.{are_first, are_all, long_is_next, whole_within, whole_taken}
 use Rattle.keel_disk.specs.Seen.{Seen}
 use Rattle.keel_cli.specs.declared.lines.LineStop.{LineStop}
 use Rattle.keel_cli.specs.declared.lines.LineStop.TheVariants.{Refused, Unwritten, NoMemory}
 use Rattle.keel_cli.specs.declared.top.End.{End}
 use Rattle.keel_cli.specs.declared.top.End.TheVariants.{Completed, Usage, NotACommand, LongLine, LongInput, ReadFault, WriteFault, OutOfMemory}
-use Rattle.keel_cli.specs.Ends.{Outside, Ends, Reads, AreFirst, AreAll, AreBeforeLong, AreWithin, AreTaken, OfInput, LinesRuns, stop_at, StaysOrRunsOut, end_at, end_behind, status_of}
+use Rattle.keel_cli.specs.Ends.{Outside, Ends, Reads, OfInput, LinesRuns, stop_at, StaysOrRunsOut, end_at, end_behind, status_of}
 
 -- ---- which lines of the input were given
 
@@ -31,22 +32,17 @@ module _ (told : Option (List ℕ)) (view : LinesView) (lines : List (List ℕ))
   first_given given = every_input told (λ input. AreFirst input lines) (λ input is. are_first input view lines (delivered_of given input is))
 
   pub all_given : (new : LinesView) → Delivered told view lines → IsFinished view new → OfInput told (λ input. AreAll input lines)
-  all_given new given finished = every_input told (λ input. AreAll input lines)
-      (λ input is. let all = are_all input view new lines (delivered_of given input is) finished in record { lines_are = all.0; short = all.1 })
+  all_given new given finished = every_input told (λ input. AreAll input lines) (λ input is. are_all input view new lines (delivered_of given input is) finished)
 
   pub given_before_long : (number : ℕ) → Delivered told view lines → view.ended ≡ false → PassesLine view → number ≡ length lines + 1 → OfInput told (λ input. AreBeforeLong number input lines)
   given_before_long number given more long is = every_input told (λ input. AreBeforeLong number input lines)
-      (λ input same. let next = long_is_next input view lines (delivered_of given input same) more long in
-      record { line = next.0; more = next.1; lines_are = next.2; long = next.3; number_is = is })
+      (λ input same. subst (λ n. AreBeforeLong n input lines) (sym is) (long_is_next input view lines (delivered_of given input same) more long))
 
   pub given_within : Delivered told view lines → view.ended ≡ false → PassesInput view → OfInput told (λ input. AreWithin input lines)
-  given_within given more long = every_input told (λ input. AreWithin input lines)
-      (λ input same. let within = whole_within input view lines (delivered_of given input same) more long in record { long = within.0; lines_are = within.1 })
+  given_within given more long = every_input told (λ input. AreWithin input lines) (λ input same. whole_within input view lines (delivered_of given input same) more long)
 
   pub given_taken : Delivered told view lines → view.ended ≡ false → IsCut view → OfInput told (λ input. AreTaken view.remaining input lines)
-  given_taken given more cut = every_input told (λ input. AreTaken view.remaining input lines)
-      (λ input same. let taken = whole_taken input view lines (delivered_of given input same) more cut in
-      record { taken = taken.0; rest = taken.1; input_is = taken.2; left_is = taken.3; lines_are = taken.4 })
+  given_taken given more cut = every_input told (λ input. AreTaken view.remaining input lines) (λ input same. whole_taken input view lines (delivered_of given input same) more cut)
 
 -- the end of a run that stops at the last of the lines given
 pub ends_at : (stop : LineStop) (line : ℕ) (before after : Outside) → Reads (stop_at stop line) AreFirst before after
@@ -96,10 +92,14 @@ runs_out : (line : ℕ) (before after : Outside) → Reads (stop_at Refused line
 runs_out line before after reads =
     inr (line, record { lines = reads.lines; of_input = reads.of_input; runs = stops_short line before.device after.device before.held after.held reads.lines reads.runs })
 
+-- the lines before one that is too long are the first
+first_of : (number : ℕ) (input : List ℕ) (lines : List (List ℕ)) → AreBeforeLong number input lines → AreFirst input lines
+first_of number input lines long = record { front = long.front; is_front = long.is_front; more = long.line ∷ long.more; lines_are = long.lines_are }
+
 long_runs_out : (line : ℕ) (before after : Outside) → Reads None (AreBeforeLong line) before after → Ends OutOfMemory before after
 long_runs_out line before after reads = inl (record {
   lines = reads.lines;
-  of_input = with_input before.left (λ input. AreBeforeLong line input reads.lines) (λ input. AreFirst input reads.lines) (λ input same long. (long.line ∷ long.more, long.lines_are)) reads.of_input;
+  of_input = with_input before.left (λ input. AreBeforeLong line input reads.lines) (λ input. AreFirst input reads.lines) (λ input same. first_of line input reads.lines) reads.of_input;
   runs = reads.runs;
 })
 

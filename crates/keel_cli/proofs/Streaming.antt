@@ -1,18 +1,19 @@
 -- The ends of a run over lines as they are given.
 use Rattle.std.proofs.Common.{◌≡◌, ℕ, ◌+◌, ◌≤◌, false, Option, None, List, [], ◌∷◌, ◌++◌, length, ap, sym, subst, arith}
-use Rattle.std.proofs.KnownBytes.{prepend_known-nil}
+use Rattle.std.proofs.KnownBytes.{Consumes-nil, prepend_known-nil}
 use Rattle.std.specs.Io.KnownBytes.{IsAtEnd}
 use Rattle.keel_base.specs.Counts.{Rose}
 use Rattle.keel_lines.specs.declared.line.LineEnd.{LineEnd}
 use Rattle.keel_lines.specs.declared.line.LineEnd.TheVariants as line_end
-use Rattle.keel_lines.specs.Calls.{LinesView, GivesLine, IsFinished, IsHeld, PassesLine, PassesInput, IsCut, left}
+use Rattle.keel_lines.specs.Calls.{LinesView, GivesLine, HoldsFew, IsFinished, IsHeld, PassesLine, PassesInput, IsCut, left}
 use Rattle.keel_lines.specs.Delivered.{Delivered}
-use Rattle.keel_lines.proofs.Deliveries.{begins, adds_line, holds_lines}
+use Rattle.keel_lines.specs.Inputs.{AreTaken, TakesFew}
+use Rattle.keel_lines.proofs.Deliveries.{begins, adds_line, few_taken, holds_lines}
 use Rattle.keel_disk.specs.Seen.{Seen}
 use Rattle.keel_cli.specs.declared.lines.LineStop.{LineStop}
 use Rattle.keel_cli.specs.declared.lines.LineStop.TheVariants.{Unwritten}
 use Rattle.keel_cli.specs.declared.top.End.TheVariants.{Completed}
-use Rattle.keel_cli.specs.Ends.{Ends, LinesRuns, AreTaken, OfInput, stop_at, end_at, end_behind, outside}
+use Rattle.keel_cli.specs.Ends.{Ends, LinesRuns, OfInput, stop_at, end_at, end_behind, outside}
 use Rattle.keel_cli.proofs.Endings.{first_given, all_given, given_before_long, given_within, given_taken, ends_at, ends_behind}
 
 pub rose_later : (first before now : ℕ) → first ≤ before → Rose before now → Rose first now
@@ -23,6 +24,15 @@ pub nothing_given : (told : Option (List ℕ)) (view : LinesView) → view.pendi
 nothing_given told view pending passed ended remaining =
     let whole : left view ≡ told = rw (pending, prepend_known-nil) remaining in
     subst (λ (o : Option (List ℕ)). Delivered o view []) whole (begins view passed ended)
+
+-- nothing was taken
+pub takes_none : (told : Option (List ℕ)) → TakesFew told told
+takes_none told = record { taken = []; consumed = Consumes-nil told; few = omega arith }
+
+-- what a reader that gave these lines has taken
+pub takes_few : (told left_behind : Option (List ℕ)) (view : LinesView) (lines : List (List ℕ)) → Delivered told view lines → HoldsFew view → left_behind ≡ view.remaining
+    → TakesFew told left_behind
+takes_few told left_behind view lines given few is = subst (TakesFew told) (sym is) (few_taken told view lines given few)
 
 module _ (told : Option (List ℕ)) (read_faults : ℕ) (held : Option (List ℕ)) (write_faults : ℕ) (handed_in : Seen) (lines : List (List ℕ)) (old new : LinesView)
     (given : Delivered told old lines) (later_read : read_faults ≤ old.faults) (left_behind : Option (List ℕ)) (faults_behind : ℕ) (holds : Option (List ℕ)) (writes_behind : ℕ) (handed_back : Seen)

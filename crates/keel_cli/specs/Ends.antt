@@ -1,5 +1,5 @@
 -- How a run over a workload may end, and what it then has done.
-use Rattle.std.specs.Prelude.{◌≡◌, ◌<◌, ℕ, ◌+◌, ◌⊎◌, Option, None, Some, List, [], ◌∷◌, ◌++◌, length, take, codes, ◌≤◌}
+use Rattle.std.specs.Prelude.{◌≡◌, ℕ, ◌+◌, ◌⊎◌, Option, None, Some, List, [], ◌∷◌, ◌++◌, length, codes}
 use Rattle.std.specs.Fmt.{decimal}
 use Rattle.std.specs.Io.KnownBytes.{Appends, IsAtEnd}
 use Rattle.keel_base.specs.Counts.{Rose}
@@ -8,7 +8,7 @@ use Rattle.keel_disk.specs.Seen.{Seen}
 use Rattle.keel_machine.specs.States.{Footing}
 use Rattle.keel_lines.specs.declared.line.LineEnd.{LineEnd}
 use Rattle.keel_lines.specs.declared.line.LineEnd.TheVariants as line_end
-use Rattle.keel_lines.specs.Lines.{longest_line, longest_input, lines_of, whole_lines}
+use Rattle.keel_lines.specs.Inputs.{AreFirst, AreAll, AreBeforeLong, AreWithin, AreTaken}
 use Rattle.keel_script.specs.declared.command.Command.{Command}
 use Rattle.keel_script.specs.declared.reply.Reply.{Reply}
 use Rattle.keel_cli.specs.declared.top.End.{End}
@@ -108,36 +108,6 @@ LinesRuns stop handed_in held lines handed_back holds =
     (footing : Footing) → MayBegin footing handed_in.told → LinesRun stop footing handed_in held lines handed_back holds
 
 -- ---- which lines of the input those are, where the source tells it
-
--- they are the first of its lines
-abbrev pub AreFirst : List ℕ → List (List ℕ) → Type 0
-AreFirst input lines = (more : List (List ℕ)) × (lines_of input ≡ lines ++ more)
-
--- they are all of its lines
-pub record AreAll (input : List ℕ) (lines : List (List ℕ)) : Type 0 where
-  pub lines_are : lines_of input ≡ lines
-  pub short : length input ≤ longest_input
-
--- the next line, of this number, is too long
-pub record AreBeforeLong (number : ℕ) (input : List ℕ) (lines : List (List ℕ)) : Type 0 where
-  pub line : List ℕ
-  pub more : List (List ℕ)
-  pub lines_are : lines_of input ≡ lines ++ line ∷ more
-  pub long : longest_line < length line
-  pub number_is : number ≡ length lines + 1
-
--- the input is too long, and they are the lines that are whole within its first bytes
-pub record AreWithin (input : List ℕ) (lines : List (List ℕ)) : Type 0 where
-  pub long : longest_input < length input
-  pub lines_are : whole_lines (take longest_input input) ≡ lines
-
--- they are the lines that are whole among the bytes that were taken, and these are left
-pub record AreTaken (left : Option (List ℕ)) (input : List ℕ) (lines : List (List ℕ)) : Type 0 where
-  pub taken : List ℕ
-  pub rest : List ℕ
-  pub input_is : input ≡ taken ++ rest
-  pub left_is : left ≡ Some rest
-  pub lines_are : whole_lines taken ≡ lines
 
 -- of an input that is told, this holds
 abbrev pub OfInput : Option (List ℕ) → (List ℕ → Type 0) → Type 0

@@ -4,6 +4,7 @@ ghost use Rattle.keel_base.specs.Counts.{Rose};
 ghost use Rattle.keel_recovery.specs.Machine.{IsCovered};
 ghost use Rattle.keel_cli.specs.Driving.{LineLeads, StandsAt};
 ghost use Rattle.keel_cli.specs.Ends.{CommandEnds, LineEnds, Ends, IsUnwritten, end_at, end_behind, outside};
+ghost use Rattle.keel_lines.specs.Inputs.{TakesFew};
 ghost use Rattle.keel_lines.specs.Lines.{longest_line};
 ghost use Rattle.keel_cli.specs.declared.top.End.TheVariants.{Usage};
 ghost use Rattle.keel_cli.specs.Places.{IsTidy};
@@ -153,6 +154,7 @@ pub fn carry_lines<S: Source, K: Sink, V: Device>(
         (outside (S.remaining source) (S.faults source) (K.held out.old) (K.faults out.old) (V.seen device))
         (outside (S.remaining result.source) (S.faults result.source) (K.held out.new) (K.faults out.new) (V.seen result.device)) }
     ensures ran { result.end ≢ Usage }
+    ensures taken { TakesFew (S.remaining source) (S.remaining result.source) }
 {
     let mut reader = LineReader::new(alloc, source);
     let mut driver = Driver::new(device);

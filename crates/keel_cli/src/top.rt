@@ -1,9 +1,10 @@
 // The top call: a workload is read, carried out and answered.
-ghost use Rattle.std.specs.Prelude.{◌≡◌, ◌⊎◌, ◌↔◌, IfOk, IsTrue, map};
+ghost use Rattle.std.specs.Prelude.{◌≡◌, ◌⊎◌, ◌↔◌, IfOk, IsTrue, codes, map};
 ghost use Rattle.std.specs.String.{string_bytes};
+ghost use Rattle.keel_lines.specs.Inputs.{TakesFew};
 ghost use Rattle.keel_cli.specs.declared.top.End.{End};
 ghost use Rattle.keel_cli.specs.Ends.{Ends, NamesNoLine, StaysOrRunsOut, named, outside, message_of, status_of, Tells};
-ghost use Rattle.keel_cli.specs.Words.{AskForRun};
+ghost use Rattle.keel_cli.specs.Words.{AskForRun, IsPath};
 
 use crate::{LinesDone, carry_lines};
 use keel_base::{OutOfMemory, Sink, Source, give_all};
@@ -33,12 +34,29 @@ pub struct Ended<S: Source, K: Sink, E: Sink, V: Device> {
     pub device: V,
 }
 
+// Whether a word may be a path: it isn't empty, and doesn't begin with a minus sign.
+fn is_path(word: &str) -> bool
+    ensures { IsTrue result ↔ IsPath word.now }
+{
+    match word.as_bytes() {
+        [] => false,
+        [first, ..] => *first != b'-',
+    }
+}
+
+// Whether the words ask for a run over the folder of a path.
+fn name_folder(word: &str, path: &str) -> bool
+    ensures { IsTrue result ↔ ((word.now ≡ codes "dir") × IsPath path.now) }
+{
+    word == "dir" && is_path(path)
+}
+
 fn ask_for_run(words: &Vec<String>) -> bool
     ensures { IsTrue result ↔ AskForRun (map string_bytes words.now.items) }
 {
     match words.as_slice() {
         [word] => word.as_str() == "run",
-        [word, _] => word.as_str() == "dir",
+        [word, path] => name_folder(word.as_str(), path.as_str()),
         _ => false,
     }
 }
@@ -55,6 +73,7 @@ fn work<S: Source, K: Sink, V: Device>(
     ensures ends { Ends result.end
         (outside (S.remaining source) (S.faults source) (K.held out.old) (K.faults out.old) (V.seen device))
         (outside (S.remaining result.source) (S.faults result.source) (K.held out.new) (K.faults out.new) (V.seen result.device)) }
+    ensures taken { TakesFew (S.remaining source) (S.remaining result.source) }
 {
     if ask_for_run(words) {
         carry_lines(alloc, source, out, device)
@@ -158,6 +177,8 @@ pub fn run_words<S: Source, K: Sink, E: Sink, V: Device>(
         (outside (S.remaining result.source) (S.faults result.source) (K.held result.out) (K.faults result.out) (V.seen result.device))
         × Tells (message_of end) (E.held err) (E.faults err) (E.held result.err) (E.faults result.err) }
     ensures usage { (result.status ≡ 2) ↔ ¬ AskForRun (map string_bytes words.now.items) }
+    // Of the source at most as many bytes were taken as an input may have, and one piece of it.
+    ensures taken { TakesFew (S.remaining source) (S.remaining result.source) }
 {
     let mut out = out;
     let mut err = err;

@@ -1,10 +1,12 @@
 -- What the lines that were given are of the input.
-use Rattle.std.proofs.Common.{◌≡◌, ◌<◌, ◌≤◌, ◌+◌, ◌-◌, ℕ, suc, Bool, true, false, true≢false, Option, None, Some, List, [], ◌∷◌, ◌++◌, length, take, drop, sym, ap, ◌∙◌, subst, refl, arith, append_assoc, append-nil, length-append, length-take-le}
+use Rattle.std.proofs.Common.{◌≡◌, ◌⊎◌, inl, inr, ◌<◌, ◌≤◌, ◌+◌, ◌-◌, ℕ, suc, Bool, true, false, true≢false, Option, None, Some, List, [], ◌∷◌, ◌++◌, length, take, drop, sym, ap, ◌∙◌, subst, refl, arith, append_assoc, append-nil, length-append, length-take-le}
 use Rattle.std.proofs.lemmas.List.{take-append-le}
 use Rattle.std.proofs.KnownBytes.{Consumes-nil, Consumes-trans, Consumes-kept}
 use Rattle.std.specs.List.{AllByRecursion}
 use Rattle.std.specs.Io.KnownBytes.{Consumes, IsAtEnd, Keeps, prepend_known}
-use Rattle.keel_lines.specs.Calls.{left}
+use Rattle.keel_lines.specs.Calls.{LinesView, left}
+use Rattle.keel_lines.specs.Delivered.{Delivered}
+use Rattle.keel_lines.specs.Inputs.{IsFront, AreFirst, AreAll, AreBeforeLong, AreWithin, AreTaken, TakesFew}
 use Rattle.keel_lines.specs.Laws as law
 use Rattle.keel_lines.specs.Lines.{longest_line, longest_input, lines_of, whole_lines, length_before, IsUnbroken, EndsLine}
 use Rattle.keel_lines.specs.Pieces.{mark_if, IsTooLong}
@@ -70,29 +72,69 @@ holds_lines input old new lines so_far held = record {
   last = λ met. absurd (true≢false (sym met ∙ held.open_behind));
 }
 
+pub ends_lines : law.EndsLines
+ends_lines input old new lines so_far finished = record {
+  bytes = so_far.bytes;
+  taken = Consumes-kept input (left old) (left new) so_far.bytes so_far.taken finished.same;
+  passed_is = finished.passed_is ∙ so_far.passed_is;
+  within = omega (arith, finished.passed_is, so_far.within);
+  lines_are = so_far.lines_are;
+  short = so_far.short;
+  whole = λ going. absurd (true≢false (sym finished.ended ∙ going));
+  last = λ met. at_end new.pending new.remaining finished.pending finished.at_end;
+}
+
+-- what was given and what is held was taken
+taken_of : (input remaining : Option (List ℕ)) (bytes pending : List ℕ) → Consumes input (prepend_known pending remaining) bytes → Consumes input remaining (bytes ++ pending)
+taken_of None remaining bytes pending taken = tt
+taken_of (Some input) None bytes pending taken = absurd taken
+taken_of (Some input) (Some rest) bytes pending taken = taken ∙ sym (append_assoc bytes pending rest)
+
+pub few_taken : law.FewTaken
+few_taken input view lines so_far few = record {
+  taken = so_far.bytes ++ view.pending;
+  consumed = taken_of input view.remaining so_far.bytes view.pending so_far.taken;
+  few = omega (arith, few, so_far.passed_is, length-append so_far.bytes view.pending);
+}
+
 -- ---- of an input that is told
 
-first_lines : (input bytes : List ℕ) (rest : Option (List ℕ)) (ended : Bool) → Consumes (Some input) rest bytes → (ended ≡ false → EndsLine bytes)
-    → (ended ≡ true → IsAtEnd rest) → (more : List (List ℕ)) × (lines_of input ≡ lines_of bytes ++ more)
-first_lines input bytes None ended taken whole last = absurd taken
-first_lines input bytes (Some rest) false taken whole last = (lines_of rest, ap lines_of taken ∙ lines_append bytes rest (whole refl))
-first_lines input bytes (Some rest) true taken whole last =
-    ([], ap lines_of (taken ∙ ap (λ l. bytes ++ l) (last refl) ∙ append-nil bytes) ∙ sym (append-nil (lines_of bytes)))
+-- what was given is a front of it
+front_of : (input bytes : List ℕ) (lines : List (List ℕ)) (rest : Option (List ℕ)) (ended : Bool) → Consumes (Some input) rest bytes → length bytes ≤ longest_input
+    → lines_of bytes ≡ lines → (ended ≡ false → EndsLine bytes) → (ended ≡ true → IsAtEnd rest) → IsFront input bytes lines
+front_of input bytes lines None ended taken within lines_are whole last = absurd taken
+front_of input bytes lines (Some rest) false taken within lines_are whole last =
+    record { rest = rest; input_is = taken; within = within; lines_are = lines_are; whole = inl (whole refl) }
+front_of input bytes lines (Some rest) true taken within lines_are whole last =
+    record { rest = rest; input_is = taken; within = within; lines_are = lines_are; whole = inr (last refl) }
 
-pub are_first : law.AreFirst
+given_front : (input : List ℕ) (view : LinesView) (lines : List (List ℕ)) (so_far : Delivered (Some input) view lines) → IsFront input so_far.bytes lines
+given_front input view lines so_far =
+    front_of input so_far.bytes lines (left view) view.ended so_far.taken (omega (arith, so_far.passed_is, so_far.within)) so_far.lines_are so_far.whole so_far.last
+
+-- the lines of a front come first
+front_first : (input front rest : List ℕ) (lines : List (List ℕ)) → input ≡ front ++ rest → lines_of front ≡ lines → EndsLine front ⊎ (rest ≡ [])
+    → (more : List (List ℕ)) × (lines_of input ≡ lines ++ more)
+front_first input front rest lines input_is lines_are (inl ends) =
+    (lines_of rest, ap lines_of input_is ∙ lines_append front rest ends ∙ ap (λ l. l ++ lines_of rest) lines_are)
+front_first input front rest lines input_is lines_are (inr none) =
+    ([], ap lines_of (input_is ∙ ap (λ l. front ++ l) none ∙ append-nil front) ∙ lines_are ∙ sym (append-nil lines))
+
+pub are_first : law.FirstGiven
 are_first input view lines so_far =
-    let found = first_lines input so_far.bytes (left view) view.ended so_far.taken so_far.whole so_far.last in
-    (found.0, found.1 ∙ ap (λ l. l ++ found.0) so_far.lines_are)
+    let front = given_front input view lines so_far in
+    let first = front_first input so_far.bytes front.rest lines front.input_is front.lines_are front.whole in
+    record { front = so_far.bytes; is_front = front; more = first.0; lines_are = first.1 }
 
 all_bytes : (input bytes : List ℕ) (before now : Option (List ℕ)) → Consumes (Some input) before bytes → Keeps before now → IsAtEnd now → input ≡ bytes
 all_bytes input bytes None now taken kept ended = absurd taken
 all_bytes input bytes (Some rest) None taken kept ended = absurd kept
 all_bytes input bytes (Some rest) (Some same) taken kept ended = taken ∙ ap (λ l. bytes ++ l) (sym kept ∙ ended) ∙ append-nil bytes
 
-pub are_all : law.AreAll
+pub are_all : law.AllGiven
 are_all input old new lines so_far finished =
     let whole = all_bytes input so_far.bytes (left old) (left new) so_far.taken finished.same (at_end new.pending new.remaining finished.pending finished.at_end) in
-    (ap lines_of whole ∙ so_far.lines_are, omega (arith, ap length whole, so_far.passed_is, so_far.within))
+    record { lines_are = ap lines_of whole ∙ so_far.lines_are; short = omega (arith, ap length whole, so_far.passed_is, so_far.within) }
 
 -- what is held and what the source has left, where that is told
 split : (input bytes pending : List ℕ) (remaining : Option (List ℕ)) → Consumes (Some input) (prepend_known pending remaining) bytes
@@ -119,39 +161,66 @@ next_is_long bytes more room long =
 pub long_is_next : law.LongIsNext
 long_is_next input view lines so_far going long =
     let told = split input so_far.bytes view.pending view.remaining so_far.taken in
-    let next = next_is_long view.pending told.0 (longest_input - view.passed) long in (
-      next.0,
-      next.1,
-      ap lines_of told.2 ∙ lines_append so_far.bytes (view.pending ++ told.0) (so_far.whole going) ∙ ap (λ l. l ++ lines_of (view.pending ++ told.0)) so_far.lines_are
-          ∙ ap (λ l. lines ++ l) next.2,
-      next.3,
-    )
+    let next = next_is_long view.pending told.0 (longest_input - view.passed) long in
+    record {
+      front = so_far.bytes;
+      is_front = given_front input view lines so_far;
+      room = omega (arith, long.long, so_far.passed_is, so_far.within);
+      line = next.0;
+      more = next.1;
+      lines_are =
+          ap lines_of told.2 ∙ lines_append so_far.bytes (view.pending ++ told.0) (so_far.whole going) ∙ ap (λ l. l ++ lines_of (view.pending ++ told.0)) so_far.lines_are
+          ∙ ap (λ l. lines ++ l) next.2;
+      long = next.3;
+      number_is = refl;
+    }
 
--- what is whole within the first of the bytes
-whole_front : (bytes pending rest : List ℕ) (most room : ℕ) → most ≡ length bytes + room → IsUnbroken (take room pending) → room ≤ length pending → EndsLine bytes
-    → whole_lines (take most (bytes ++ (pending ++ rest))) ≡ lines_of bytes
-whole_front bytes pending rest most room same unbroken within ends =
-    rw (same, take_past bytes (pending ++ rest) room, take-append-le room pending rest within)
-    (whole_append bytes (take room pending) ends ∙ ap (λ l. lines_of bytes ++ l) (none_whole (take room pending) unbroken) ∙ append-nil (lines_of bytes))
+-- the first bytes are those that were given, and as many as there is room for of those that are held
+first_bytes : (bytes pending rest : List ℕ) (most room : ℕ) → most ≡ length bytes + room → room ≤ length pending
+    → take most (bytes ++ (pending ++ rest)) ≡ bytes ++ take room pending
+first_bytes bytes pending rest most room same within =
+    rw (same, take_past bytes (pending ++ rest) room, take-append-le room pending rest within) refl
+
+whole_front : (bytes begun : List ℕ) → IsUnbroken begun → EndsLine bytes → whole_lines (bytes ++ begun) ≡ lines_of bytes
+whole_front bytes begun unbroken ends =
+    whole_append bytes begun ends ∙ ap (λ l. lines_of bytes ++ l) (none_whole begun unbroken) ∙ append-nil (lines_of bytes)
+
+abbrev AreShort : List (List ℕ) → Type 0
+AreShort lines = AllByRecursion (λ line. length line ≤ longest_line) lines
+
+-- a line that has begun, behind short ones
+short_and_begun : (bytes begun : List ℕ) → AreShort (lines_of bytes) → EndsLine bytes → IsUnbroken begun → length begun ≤ longest_line → AreShort (lines_of (bytes ++ begun))
+short_and_begun bytes [] short ends unbroken few = subst (λ l. AreShort (lines_of l)) (sym (append-nil bytes)) short
+short_and_begun bytes (byte ∷ begun) short ends unbroken few =
+    let line = byte ∷ begun in
+    subst AreShort (sym (lines_append bytes line ends ∙ ap (λ l. lines_of bytes ++ l) (last_line line unbroken (omega arith))))
+    (all_and_one (λ l. length l ≤ longest_line) (lines_of bytes) line short few)
 
 pub whole_within : law.WholeWithin
 whole_within input view lines so_far going much =
     let told = split input so_far.bytes view.pending view.remaining so_far.taken in
-    let all = so_far.bytes ++ (view.pending ++ told.0) in (
-      omega (arith, ap length told.2, so_far.passed_is, so_far.within, much.more, length-append so_far.bytes (view.pending ++ told.0), length-append view.pending told.0),
-      ap (λ l. whole_lines (take longest_input l)) told.2
-          ∙ whole_front so_far.bytes view.pending told.0 longest_input (longest_input - view.passed) (omega (arith, so_far.passed_is, so_far.within)) much.unbroken
-          (omega (arith, much.more)) (so_far.whole going)
-          ∙ so_far.lines_are,
-    )
+    let room = longest_input - view.passed in
+    let begun = take room view.pending in
+    let first : take longest_input input ≡ so_far.bytes ++ begun =
+    ap (take longest_input) told.2
+    ∙ first_bytes so_far.bytes view.pending told.0 longest_input room (omega (arith, so_far.passed_is, so_far.within)) (omega (arith, much.more))
+    in
+    record {
+      long = omega (arith, ap length told.2, so_far.passed_is, so_far.within, much.more, length-append so_far.bytes (view.pending ++ told.0), length-append view.pending told.0);
+      lines_are = ap whole_lines first ∙ whole_front so_far.bytes begun much.unbroken (so_far.whole going) ∙ so_far.lines_are;
+      short = subst (λ l. AreShort (lines_of l)) (sym first)
+          (short_and_begun so_far.bytes begun (subst AreShort (sym so_far.lines_are) so_far.short) (so_far.whole going) much.unbroken
+          (omega (arith, length-take-le room view.pending (omega (arith, much.more)), much.room_is)));
+    }
 
 pub whole_taken : law.WholeTaken
 whole_taken input view lines so_far going cut =
-    let told = split input so_far.bytes view.pending view.remaining so_far.taken in (
-      so_far.bytes ++ view.pending,
-      told.0,
-      told.2 ∙ sym (append_assoc so_far.bytes view.pending told.0),
-      told.1,
-      whole_append so_far.bytes view.pending (so_far.whole going) ∙ ap (λ l. lines_of so_far.bytes ++ l) (none_whole view.pending cut.unbroken)
-          ∙ append-nil (lines_of so_far.bytes) ∙ so_far.lines_are,
-    )
+    let told = split input so_far.bytes view.pending view.remaining so_far.taken in
+    record {
+      taken = so_far.bytes ++ view.pending;
+      rest = told.0;
+      input_is = told.2 ∙ sym (append_assoc so_far.bytes view.pending told.0);
+      left_is = told.1;
+      within = omega (arith, length-append so_far.bytes view.pending, cut.fits, so_far.passed_is, so_far.within);
+      lines_are = whole_front so_far.bytes view.pending cut.unbroken (so_far.whole going) ∙ so_far.lines_are;
+    }

@@ -1,7 +1,7 @@
 -- What a reader of lines shows, and what its calls make of that.
 use Rattle.std.specs.Prelude.{◌≡◌, ℕ, ◌+◌, ◌-◌, ◌<◌, ◌≤◌, Bool, true, false, List, [], ◌++◌, length, Option}
 use Rattle.std.specs.Io.KnownBytes.{Consumes, IsAtEnd, Keeps, prepend_known}
-use Rattle.keel_lines.specs.Lines.{longest_line, longest_input, IsUnbroken}
+use Rattle.keel_lines.specs.Lines.{longest_line, longest_input, longest_piece, IsUnbroken}
 use Rattle.keel_lines.specs.Pieces.{mark_if, IsBegun, IsTooLong, IsTooMuch}
 
 pub record LinesView : Type 0 where
@@ -22,6 +22,10 @@ left view = prepend_known view.pending view.remaining
 -- how many bytes of the input may still be given
 abbrev pub room_in : LinesView → ℕ
 room_in view = longest_input - view.passed
+
+-- at most one piece was taken past what an input may have
+abbrev pub HoldsFew : LinesView → Type 0
+HoldsFew view = view.passed + length view.pending ≤ longest_input + longest_piece
 
 -- this line is what stood behind the last newline, and nothing is left
 pub record IsLast (line : List ℕ) (new : LinesView) : Type 0 where

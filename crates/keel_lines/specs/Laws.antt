@@ -1,8 +1,8 @@
 -- What the lines that were given are of an input that is told.
-use Rattle.std.specs.Prelude.{◌≡◌, ◌<◌, ◌≤◌, ℕ, false, List, [], ◌∷◌, ◌++◌, length, take, Option, Some}
-use Rattle.keel_lines.specs.Calls.{LinesView, GivesLine, IsFinished, IsHeld, PassesLine, PassesInput, IsCut, left}
+use Rattle.std.specs.Prelude.{◌≡◌, ◌+◌, ℕ, false, List, [], ◌∷◌, ◌++◌, length, Option, Some}
+use Rattle.keel_lines.specs.Calls.{LinesView, GivesLine, IsFinished, IsHeld, HoldsFew, PassesLine, PassesInput, IsCut, left}
 use Rattle.keel_lines.specs.Delivered.{Delivered}
-use Rattle.keel_lines.specs.Lines.{longest_line, longest_input, lines_of, whole_lines}
+use Rattle.keel_lines.specs.Inputs.{AreFirst, AreAll, AreBeforeLong, AreWithin, AreTaken, TakesFew}
 
 -- a reader that has given nothing yet has given no line of what is left
 abbrev pub Begins : Type 0
@@ -19,32 +19,37 @@ abbrev pub HoldsLines : Type 0
 HoldsLines =
     (input : Option (List ℕ)) (old new : LinesView) (lines : List (List ℕ)) → Delivered input old lines → IsHeld old new → Delivered input new lines
 
+-- the end leaves it too
+abbrev pub EndsLines : Type 0
+EndsLines =
+    (input : Option (List ℕ)) (old new : LinesView) (lines : List (List ℕ)) → Delivered input old lines → IsFinished old new → Delivered input new lines
+
+-- no more is taken than an input may have, and one piece
+abbrev pub FewTaken : Type 0
+FewTaken = (input : Option (List ℕ)) (view : LinesView) (lines : List (List ℕ)) → Delivered input view lines → HoldsFew view → TakesFew input view.remaining
+
 -- they are the first lines of the input
-abbrev pub AreFirst : Type 0
-AreFirst =
-    (input : List ℕ) (view : LinesView) (lines : List (List ℕ)) → Delivered (Some input) view lines
-    → (more : List (List ℕ)) × (lines_of input ≡ lines ++ more)
+abbrev pub FirstGiven : Type 0
+FirstGiven = (input : List ℕ) (view : LinesView) (lines : List (List ℕ)) → Delivered (Some input) view lines → AreFirst input lines
 
 -- at the end they are all of them, and the input isn't too long
-abbrev pub AreAll : Type 0
-AreAll =
-    (input : List ℕ) (old new : LinesView) (lines : List (List ℕ)) → Delivered (Some input) old lines → IsFinished old new
-    → (lines_of input ≡ lines) × (length input ≤ longest_input)
+abbrev pub AllGiven : Type 0
+AllGiven = (input : List ℕ) (old new : LinesView) (lines : List (List ℕ)) → Delivered (Some input) old lines → IsFinished old new → AreAll input lines
 
 -- where a line is too long, it is the next one of the input
 abbrev pub LongIsNext : Type 0
 LongIsNext =
     (input : List ℕ) (view : LinesView) (lines : List (List ℕ)) → Delivered (Some input) view lines → view.ended ≡ false → PassesLine view
-    → (line : List ℕ) × (more : List (List ℕ)) × (lines_of input ≡ lines ++ line ∷ more) × (longest_line < length line)
+    → AreBeforeLong (length lines + 1) input lines
 
--- where the input is too long, they are the whole lines within its first bytes
+-- where the input is too long, they are the whole lines within its first bytes, of which none is too long
 abbrev pub WholeWithin : Type 0
 WholeWithin =
     (input : List ℕ) (view : LinesView) (lines : List (List ℕ)) → Delivered (Some input) view lines → view.ended ≡ false → PassesInput view
-    → (longest_input < length input) × (whole_lines (take longest_input input) ≡ lines)
+    → AreWithin input lines
 
 -- where the source failed, they are the whole lines among the bytes that were taken
 abbrev pub WholeTaken : Type 0
 WholeTaken =
     (input : List ℕ) (view : LinesView) (lines : List (List ℕ)) → Delivered (Some input) view lines → view.ended ≡ false → IsCut view
-    → (taken rest : List ℕ) × (input ≡ taken ++ rest) × (view.remaining ≡ Some rest) × (whole_lines taken ≡ lines)
+    → AreTaken view.remaining input lines

@@ -8,6 +8,10 @@ longest_line = 8192
 abbrev pub longest_input : ℕ
 longest_input = 67108864
 
+-- the most bytes that are taken of a source at once
+abbrev pub longest_piece : ℕ
+longest_piece = 4096
+
 -- a byte onto the first of these lines
 abbrev pub onto_first : ℕ → List (List ℕ) → List (List ℕ)
 onto_first byte [] = (byte ∷ []) ∷ []

@@ -2,7 +2,7 @@
 ghost use Rattle.std.specs.Prelude.{◌≡◌, ◌≢◌, ◌<◌, ◌≤◌, ◌++◌, true, false, [], length, OnErr, IfOk, IsErrOf};
 ghost use Rattle.std.specs.Io.KnownBytes.{Consumes, IsAtEnd, Keeps, prepend_known};
 ghost use Rattle.keel_base.specs.Counts.{Rose};
-ghost use Rattle.keel_lines.specs.Lines.{length_before};
+ghost use Rattle.keel_lines.specs.Lines.{length_before, longest_piece};
 ghost use Rattle.keel_lines.specs.Pieces.{rest_of, mark_if, GoesOn, IsBegun, IsTooLong, IsTooMuch};
 
 use crate::piece::Piece;
@@ -68,6 +68,7 @@ fn take_part(piece: &mut Piece, line: &mut Bytes, room: usize) -> Result<bool, L
     ensures ok { IfOk result (λ found. GoesOn found line.old (rest_of piece.old) line.new (rest_of piece.new) room) }
     ensures line { OnErr result (line.new ≡ line.old) }
     ensures piece { OnErr result (rest_of piece.new ≡ rest_of piece.old) }
+    ensures few { length (rest_of piece.new) ≤ longest_piece }
     ensures too_long { IsErrOf result LineEnd.TooLong → IsTooLong room (line.old ++ rest_of piece.old) }
     ensures long_input { IsErrOf result LineEnd.LongInput → IsTooMuch room (line.old ++ rest_of piece.old) }
     ensures fault { result ≢ Err LineEnd.Fault }
@@ -99,6 +100,7 @@ pub(crate) fn find_end<S: Source>(
     ensures taken { IfOk result (λ found. Consumes (prepend_known (line.old ++ rest_of piece.old) (S.remaining source.old))
         (prepend_known (rest_of piece.new) (S.remaining source.new)) (line.new ++ mark_if found)) }
     ensures begun { IsBegun room line.new }
+    ensures few { length (rest_of piece.new) ≤ longest_piece }
     ensures fits { IfOk result (λ found. length (line.new ++ mark_if found) ≤ room) }
     ensures rest { IfOk result (λ found. found ≡ false → rest_of piece.new ≡ []) }
     ensures end { IfOk result (λ found. found ≡ false → IsAtEnd (S.remaining source.new)) }

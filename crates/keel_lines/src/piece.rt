@@ -2,6 +2,7 @@
 ghost use Rattle.std.specs.Prelude.{◌≡◌, ◌<◌, ◌≤◌, ◌≢◌, ◌==◌, not, true, false, Ok, [], length, drop, IfOk, OnErr};
 ghost use Rattle.std.specs.Io.KnownBytes.{IsAtEnd, Keeps, prepend_known};
 ghost use Rattle.keel_base.specs.Counts.{HasCause};
+ghost use Rattle.keel_lines.specs.Lines.{longest_piece};
 
 use keel_base::{Failed, Source};
 
@@ -30,7 +31,8 @@ impl Piece {
 
     /// What was not looked at yet.
     pub(crate) fn rest(&self) -> &[u8]
-        ensures { result.now ≡ rest_of self.now }
+        ensures value { result.now ≡ rest_of self.now }
+        ensures few { length result.now ≤ longest_piece }
     {
         let taken = &self.bytes[..self.end];
         &taken[self.start..]
@@ -51,6 +53,7 @@ impl Piece {
         ensures end { IfOk result (λ some. some ≡ false → IsAtEnd (S.remaining source.new)) }
         ensures err { OnErr result (rest_of self.new ≡ []) }
         ensures kept { Keeps (prepend_known (rest_of self.old) (S.remaining source.old)) (prepend_known (rest_of self.new) (S.remaining source.new)) }
+        ensures few { length (rest_of self.new) ≤ longest_piece }
         ensures cause { HasCause (S.faults source.old) (S.faults source.new) result }
     {
         if self.start < self.end {

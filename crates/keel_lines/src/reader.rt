@@ -1,7 +1,7 @@
 // The lines of a source, one at a time.
 ghost use Rattle.std.specs.Prelude.{◌≡◌, ◌≤◌, Ok, None, Some, false, true, [], OnErr, IfOk, IfSome, IsErrOf};
 ghost use Rattle.keel_base.specs.Counts.{Rose};
-ghost use Rattle.keel_lines.specs.Calls.{GivesLine, IsFinished, IsHeld, PassesLine, PassesInput, IsCut};
+ghost use Rattle.keel_lines.specs.Calls.{GivesLine, HoldsFew, IsFinished, IsHeld, PassesLine, PassesInput, IsCut};
 
 use crate::line::{LineEnd, MAX_INPUT, find_end};
 use crate::piece::Piece;
@@ -66,6 +66,7 @@ impl<S: Source> LineReader<S> {
         ensures line { IfOk result (λ next. IfSome next (GivesLine self.old self.new)) }
         ensures end { result ≡ Ok None → IsFinished self.old self.new }
         ensures err { OnErr result (IsHeld self.old self.new) }
+        ensures few { HoldsFew self.new }
         ensures too_long { IsErrOf result LineEnd.TooLong → PassesLine self.new }
         ensures long_input { IsErrOf result LineEnd.LongInput → PassesInput self.new }
         ensures fault { IsErrOf result LineEnd.Fault → IsCut self.new }

@@ -1,11 +1,11 @@
 use Rattle.std.proofs.Common.{◌≡◌, ℕ, ◌+◌, List, [], ◌∷◌, ◌++◌, Ok, Err, Some, ap, arith, length, length-append, refl, ◌∙◌}
 use Rattle.keel_lines.specs.Calls.{GivesLine, IsFinished, IsHeld}
-use Rattle.keel_lines.proofs.Deliveries.{adds_line}
+use Rattle.keel_lines.proofs.Deliveries.{adds_line, ends_lines, holds_lines}
 use Rattle.keel_disk.specs.Seen.{Seen}
 use Rattle.keel_cli.specs.Sessions.{Session, unopened}
 use Rattle.keel_cli.proofs.Ending.{device_as}
 use Rattle.keel_cli.proofs.Running.{run_begins, run_goes_on, run_stops, run_ends}
-use Rattle.keel_cli.proofs.Streaming.{rose_later, nothing_given, completes, gets_none, stops_at}
+use Rattle.keel_cli.proofs.Streaming.{rose_later, nothing_given, completes, gets_none, stops_at, takes_few}
 use Rattle.keel_cli.proofs.lines.carry_lines.Goals as goal
 
 pub lines-init : goal.lines-init
@@ -43,6 +43,31 @@ returns-in-Ok-None-clause-end g c =
     let old = inv.so_far footing may in
     run_ends footing shows (g.K.Sink.held c.args.out.now) back may inv.lines (g.K.Sink.held c.lines.out) old.0
     (c.finish.ensures ∙ device_as g.row.V.Denot g.V.Disk.seen c.lines.driver.place old.0.store old.1.store) old.2)
+
+pub returns-in-Ok-None-clause-taken : goal.returns-in-Ok-None-clause-taken
+returns-in-Ok-None-clause-taken g c =
+    let inv = c.lines.invariant in
+    let told = g.S.Source.remaining c.args.source in
+    let finished : IsFinished c.lines.reader c.next.new.self = c.in-Ok-None.ensures.end (ap Ok c.in-Ok-None.field-0-is) in
+    takes_few told (g.S.Source.remaining c.into_source.result) c.next.new.self inv.lines (ends_lines told c.lines.reader c.next.new.self inv.lines inv.given finished) c.next.ensures.few
+    c.into_source.ensures.remaining
+
+pub returns-in-Err-clause-taken : goal.returns-in-Err-clause-taken
+returns-in-Err-clause-taken g c =
+    let inv = c.lines.invariant in
+    let told = g.S.Source.remaining c.args.source in
+    let held : IsHeld c.lines.reader c.next.new.self = c.in-Err.ensures.err in
+    takes_few told (g.S.Source.remaining c.into_source-in-Err.result) c.next.new.self inv.lines (holds_lines told c.lines.reader c.next.new.self inv.lines inv.given held) c.next.ensures.few
+    c.into_source-in-Err.ensures.remaining
+
+pub returns-in-Some-clause-taken : goal.returns-in-Some-clause-taken
+returns-in-Some-clause-taken g c =
+    let inv = c.lines.invariant in
+    let told = g.S.Source.remaining c.args.source in
+    let line : List ℕ = c.in-Ok-Some.line in
+    let gives : GivesLine c.lines.reader c.next.new.self line = rw c.in-Ok-Some.field-0-is at c.in-Ok-Some.ensures.line in
+    takes_few told (g.S.Source.remaining c.into_source-in-Some.result) c.next.new.self (inv.lines ++ line ∷ [])
+    (adds_line told c.lines.reader c.next.new.self inv.lines line inv.given gives) c.next.ensures.few c.into_source-in-Some.ensures.remaining
 
 pub returns-in-Err-clause-end : goal.returns-in-Err-clause-end
 returns-in-Err-clause-end g c =
