@@ -5,8 +5,7 @@ use Rattle.keel_base.specs.declared.listing.Entry.{Entry}
 use Rattle.keel_base.specs.declared.memory.OutOfMemory.{OutOfMemory}
 use Rattle.keel_disk.specs.declared.error.DiskError.{DiskError}
 use Rattle.keel_disk.specs.declared.error.DiskError.TheVariants as disk
-use Rattle.keel_base.specs.declared.failure.Fault.{Fault}
-use Rattle.keel_disk.specs.Counts.{FaultCounted, disk_fault}
+use Rattle.keel_disk.specs.Counts.{disk_fault}
 use Rattle.keel_disk.specs.Listings.{IsListing}
 use Rattle.keel_disk.specs.Told.{Told, Crashes, TellsListing}
 use Rattle.keel_disk.specs.Seen.{Seen, IsQuiet, IsArranged}

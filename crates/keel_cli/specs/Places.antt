@@ -1,8 +1,6 @@
 -- Which states of the machine the driver's store stands for.
-use Rattle.std.specs.Prelude.{◌≡◌, ℕ, Bool, true, false, Option, List}
+use Rattle.std.specs.Prelude.{◌≡◌, ℕ, Bool, true, false, List}
 use Rattle.std.specs.List.{AllByRecursion}
-use Rattle.keel_base.specs.declared.failure.Fault.{Fault}
-use Rattle.keel_disk.specs.Told.{Told}
 use Rattle.keel_disk.specs.Seen.{Seen}
 use Rattle.keel_machine.specs.States.{State}
 use Rattle.keel_machine.specs.declared.answers.Outcome.{Outcome}

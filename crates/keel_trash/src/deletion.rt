@@ -1,8 +1,7 @@
 // The next deletion, and its call.
 ghost use Rattle.std.specs.Prelude.{◌≡◌};
 ghost use Rattle.keel_base.specs.Name.{IsName};
-ghost use Rattle.keel_disk.specs.Counts.{FaultCounted, counted, disk_fault};
-ghost use Rattle.keel_disk.specs.Told.{Changes};
+ghost use Rattle.keel_disk.specs.Seen.{Calls};
 ghost use Rattle.keel_trash.specs.Next.{retirement as retirement_of, trash_deletion as trash_deletion_of};
 ghost use Rattle.keel_trash.specs.Steps.{change_of, answer_of, IsPossible};
 
@@ -58,10 +57,7 @@ pub enum Deletion {
 impl Deletion {
     pub fn call<D: Disk>(self, alloc: Global, disk: &mut D) -> Result<(), DiskError>
         requires { IsPossible self }
-        ensures step { Changes (change_of self) (D.told disk.old) result (D.told disk.new) }
-        ensures count { D.changes disk.new ≡ counted (D.changes disk.old) result }
-        ensures cause { FaultCounted (D.faults disk.old) (D.faults disk.new) (D.last_fault disk.new) (disk_fault result) }
-        ensures simulated { D.is_simulated disk.new ≡ D.is_simulated disk.old }
+        ensures { Calls (D.seen disk.old) (change_of self) result (D.seen disk.new) }
     {
         match self {
             Deletion::Purge { name } => disk.remove(alloc, name),

@@ -1,7 +1,7 @@
 // Files that wait to be deleted.
 ghost use Rattle.std.specs.Prelude.{◌≡◌, ◌+◌, ◌-◌, ◌<◌, ◌≤◌, ◌∷◌, ◌++◌, [], None, IfSome, OnOk, OnErr, drop, length};
-ghost use Rattle.keel_disk.specs.Counts.{FaultCounted, counted, disk_fault};
-ghost use Rattle.keel_disk.specs.Told.{Changes};
+ghost use Rattle.keel_disk.specs.Counts.{FaultCounted, disk_fault};
+ghost use Rattle.keel_disk.specs.Seen.{Calls};
 ghost use Rattle.keel_space.specs.Tracked.{size_of};
 ghost use Rattle.keel_trash.specs.Formulas.{is_immediate};
 ghost use Rattle.keel_trash.specs.Steps.{IsFollowed, space_after as space_after_of};
@@ -150,10 +150,8 @@ impl Trash {
         ensures step { Steps (next_of self.old space.old now) now result self.old self.new space.old space.new }
         ensures queued { AreQueued self.new space.new }
         ensures rest { call_of (next_of self.old space.old now) ≡ None → disk.new ≡ disk.old }
-        ensures call { IfSome (call_of (next_of self.old space.old now)) (λ change. Changes change (D.told disk.old) (outcome result) (D.told disk.new)) }
-        ensures count { IfSome (call_of (next_of self.old space.old now)) (λ _. D.changes disk.new ≡ counted (D.changes disk.old) (outcome result)) }
-        ensures cause { FaultCounted (D.faults disk.old) (D.faults disk.new) (D.last_fault disk.new) (disk_fault (outcome result)) }
-        ensures simulated { D.is_simulated disk.new ≡ D.is_simulated disk.old }
+        ensures call { IfSome (call_of (next_of self.old space.old now)) (λ change. Calls (D.seen disk.old) change (outcome result) (D.seen disk.new)) }
+        ensures cause { FaultCounted (D.seen disk.old).faults (D.seen disk.new).faults (D.seen disk.new).last_fault (disk_fault (outcome result)) }
     {
         match self.next(space, now) {
             Next::Rest => DeleteStep::Idle,
@@ -172,10 +170,7 @@ impl Trash {
     ) -> DeleteStep
         requires { IsNext deletion self.old space.old }
         ensures step { Deletes deletion now result self.old self.new space.old space.new }
-        ensures call { Changes (change_of deletion) (D.told disk.old) (outcome result) (D.told disk.new) }
-        ensures count { D.changes disk.new ≡ counted (D.changes disk.old) (outcome result) }
-        ensures cause { FaultCounted (D.faults disk.old) (D.faults disk.new) (D.last_fault disk.new) (disk_fault (outcome result)) }
-        ensures simulated { D.is_simulated disk.new ≡ D.is_simulated disk.old }
+        ensures call { Calls (D.seen disk.old) (change_of deletion) (outcome result) (D.seen disk.new) }
     {
         match deletion.call(alloc, disk) {
             Ok(()) => {

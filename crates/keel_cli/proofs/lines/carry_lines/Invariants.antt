@@ -16,7 +16,7 @@ invariant-lines g l = record {
   number_is : l.number ≡ length lines;
   few : l.number ≤ l.reader.passed;
   within : l.reader.passed ≤ longest_input;
-  so_far : (footing : Footing) → MayBegin footing (g.V.Disk.told l.fn.device)
+  so_far : (footing : Footing) → MayBegin footing (g.V.Disk.seen l.fn.device).told
       → DriverLeads g.V.Disk.seen l.driver (RunsSoFar footing (g.V.Disk.seen l.fn.device) (g.K.Sink.held l.fn.out) lines (g.K.Sink.held l.out));
   tidy : IsTidy l.driver.place;
   later : g.K.Sink.faults l.fn.out ≤ g.K.Sink.faults l.out;
