@@ -1,9 +1,10 @@
 -- Facts of the machine.
-use Rattle.std.specs.Prelude.{◌≡◌, ◌⊎◌, ℕ, Option, Some}
+use Rattle.std.specs.Prelude.{◌≡◌, ◌⊎◌, ℕ, ◌≤◌, length, Option, Some}
 use Rattle.keel_base.specs.Counts.{raised}
 use Rattle.keel_base.specs.declared.failure.Failure.{Failure}
 use Rattle.keel_base.specs.declared.op.Batch.{Batch}
 use Rattle.keel_disk.specs.Seen.{Seen}
+use Rattle.keel_group.specs.declared.formed.TheConstants.{MAX_WAITING}
 use Rattle.keel_machine.specs.declared.answers.Admit.TheVariants.{Queued}
 use Rattle.keel_machine.specs.declared.steps.WriteStep.{WriteStep}
 use Rattle.keel_machine.specs.Admission.{standing, AdmitAnswers}
@@ -19,3 +20,7 @@ OneCallAStep =
 -- While a failure stands, no batch is queued.
 abbrev pub FailureStops : Type 0
 FailureStops = (s : State) (failure : Failure) (batch : Batch) (ticket : ℕ) → standing s ≡ Some failure → AdmitAnswers s batch (Queued ticket) → ⊥
+
+-- Where as many batches wait as may, no further one is queued.
+abbrev pub FullQueueStops : Type 0
+FullQueueStops = (s : State) (batch : Batch) (ticket : ℕ) → MAX_WAITING ≤ length s.writing.waiting → AdmitAnswers s batch (Queued ticket) → ⊥

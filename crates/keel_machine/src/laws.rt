@@ -1,5 +1,5 @@
 // Facts of the machine, each as the contract of a function.
-ghost use Rattle.keel_machine.specs.Laws.{FailureStops, OneCallAStep};
+ghost use Rattle.keel_machine.specs.Laws.{FailureStops, FullQueueStops, OneCallAStep};
 ghost use Rattle.keel_machine.specs.WorkedRows.{FirstPut, FullQueue, SecondPut};
 
 /// A write step makes one changing call of the device at most.
@@ -10,6 +10,11 @@ pub fn one_call_a_step()
 /// While a failure stands, no batch is queued.
 pub fn failure_stops()
     ensures { FailureStops }
+{}
+
+/// While 64 batches wait, no further one is queued.
+pub fn full_queue_stops()
+    ensures { FullQueueStops }
 {}
 
 /// The calls of the first put.
