@@ -230,10 +230,16 @@ def ask(program, folder, *commands):
     return done.stdout.splitlines() if done.returncode == 0 else [f"wrong status {done.returncode}"]
 
 
-def judge(program, image, place, story):
-    """Opens the program over an image, and says what is wrong, or that it is right."""
+def lay(image, place):
+    """Writes an image into a folder."""
+    os.makedirs(place, exist_ok=True)
     for name, content in image.items():
         pathlib.Path(place, name).write_bytes(content)
+
+
+def judge(program, image, place, story):
+    """Opens the program over an image, and says what is wrong, or that it is right."""
+    lay(image, place)
     replies = ask(program, place, "open", "scan % %", "put last word sync")
     if not replies[0].startswith("opened "):
         return " ".join(replies[0].split(" ")[:2])
@@ -261,11 +267,12 @@ def play_run(calls, head, program, folder, story, options, chance, results):
         synced = [count for count in range(mark, story.acknowledged) if story.writes[count][2]]
         story.least = max([story.least] + [count + 1 for count in synced])
         for mode in options.modes * options.images if changed else ():
+            image = folder.image(mode, chance)
             with tempfile.TemporaryDirectory() as place:
-                verdict = judge(program, folder.image(mode, chance), place, story)
-                results[verdict] += 1
-                if verdict != "right" and options.keep:
-                    shutil.copytree(place, os.path.join(options.keep, str(sum(results.values()))))
+                verdict = judge(program, image, place, story)
+            results[verdict] += 1
+            if verdict != "right" and options.keep:
+                lay(image, os.path.join(options.keep, str(sum(results.values()))))
 
 
 def run_once(program, folder, story, options, chance, results, last):

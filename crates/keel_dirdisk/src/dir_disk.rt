@@ -126,7 +126,7 @@ impl<'a, R: Files<File = File> + AllocGlobal> DirDisk<'a, R> {
         Ok(listed(alloc, files)?)
     }
 
-    // The bytes that the budget leaves.
+    // What the budget leaves, and not what the host has.
     fn room(&mut self, alloc: Global) -> Result<u64, DiskError>
         ensures budget { Leaves (budget_of self.old) result (budget_of self.new) }
         ensures plain { IsPlainOrFull (disk_fault result) }
@@ -241,6 +241,7 @@ impl<'a, R: Files<File = File> + AllocGlobal> Disk for DirDisk<'a, R> {
         self.tally.look(answer_of(outcome))
     }
 
+    /// The bytes that the budget leaves. What room the host has isn't asked, since std has no call for it.
     fn free(&mut self, alloc: Global) -> Result<u64, DiskError>
         ensures room { IfOk result (TellsRoom None) }
         ensures budget { Leaves (budget_of self.old) result (budget_of self.new) }
