@@ -1,6 +1,6 @@
 -- What reads well as a block, an index or a footer is what spells it.
 use Rattle.std.proofs.Common.{◌≡◌, ℕ, zero, suc, ◌+◌, ◌-◌, ◌<◌, ◌≤◌, Bool, true, false, cond, eqb, ltb, List, [], ◌∷◌, ◌++◌, length, take, drop, Option, Some, None, Result, Ok, Err, refl, sym, ap, subst, ◌∙◌, arith, inl, inr, eq-eqb}
-use Rattle.std.specs.Prelude.{◌&&◌}
+use Rattle.std.specs.Prelude.{◌&&◌, IfOk}
 use Rattle.std.specs.List.{flat_map, AllByRecursion}
 use Rattle.std.specs.Int.{w32, from_le_bytes}
 use Rattle.std.proofs.lemmas.Bool.{cases_lt, ltb-false, eqb-true, and_parts, and_from}
@@ -17,11 +17,15 @@ use Rattle.keel_fields.specs.Reading.{Read, ◌>>=◌}
 use Rattle.keel_fields.proofs.Fields.{IsBytes, bind_ok, check_ok, ok_is, Takes, wide32}
 use Rattle.keel_table.specs.declared.index.IndexEntry.{IndexEntry}
 use Rattle.keel_table.specs.declared.index.Footer.{Footer}
-use Rattle.keel_table.specs.Spelling.{number, count, row_bytes, rows_bytes, IsRow, Ascend, last_key, checked, entry_bytes, IsEntry, magic, footer_body}
+use Rattle.keel_base.specs.Rows.{IsRow}
+use Rattle.keel_table.specs.Spelling.{number, count, row_bytes, rows_bytes, Ascend, last_key, checked, entry_bytes, IsEntry, magic, footer_body}
 use Rattle.keel_table.specs.Fields.{row_at, may_stand, has_place, placed_row, next_row_at, rows_at, all_rows_at, entry_at, entry_fits, fitting_entry, next_entry_at, entries_at, footer_at, in_order}
 use Rattle.keel_table.specs.Opening.{Damage, bad_check, bad_shape, and_then, needs, ending_at, compared, tested, part_at, checked_at, footer_of_size, footer_found, entries_in, entries_found, rows_in, block_found}
+use Rattle.keel_table.specs.declared.fault.TableFault.{TableFault}
+use Rattle.keel_table.specs.Answers.{Finds}
+use Rattle.keel_table.specs.Blocks.{FitEntry}
 use Rattle.keel_table.specs.Laws.{IsBlockAt, IsIndexAt, IsFooterAt, BlocksAreSpelled, IndexesAreSpelled, FootersAreSpelled}
-use Rattle.keel_table.proofs.KeyOrder.{eq_same}
+use Rattle.keel_base.proofs.KeyOrder.{eq_same}
 use Rattle.keel_table.proofs.Lengths.{length-row}
 use Rattle.keel_table.proofs.Loops.{taken_entry}
 use Rattle.keel_table.proofs.Reread.{tested_again, row_field, rows_again, rows_long, entry_field, footer_parts, seven, footer_again, length-footer}
@@ -43,11 +47,11 @@ found x = Ok x
 found_is : {A : Type 0} (x y : A) → found x ≡ found y → x ≡ y
 found_is x y e = cc
 
-then_ok : {A B : Type 0} (r : Result A Damage) (next : A → Result B Damage) (y : B) → and_then r next ≡ Ok y → (x : A) × (r ≡ Ok x) × (next x ≡ Ok y)
+pub then_ok : {A B : Type 0} (r : Result A Damage) (next : A → Result B Damage) (y : B) → and_then r next ≡ Ok y → (x : A) × (r ≡ Ok x) × (next x ≡ Ok y)
 then_ok (Ok x) next y e = (x, refl, e)
 then_ok (Err damage) next y e = absurd cc
 
-needs_ok : {A : Type 0} (test : Bool) (at : ℕ) (next : Result A Damage) (x : A) → needs test at next ≡ Ok x → (test ≡ true) × (next ≡ Ok x)
+pub needs_ok : {A : Type 0} (test : Bool) (at : ℕ) (next : Result A Damage) (x : A) → needs test at next ≡ Ok x → (test ≡ true) × (next ≡ Ok x)
 needs_ok true at next x e = (refl, e)
 needs_ok false at next x e = absurd cc
 
@@ -181,6 +185,16 @@ all_rows_again : (before last : List ℕ) (rows : List Row) → 0 < length rows 
 all_rows_again before last [] some each rise ends = absurd (omega (arith, some))
 all_rows_again before last (row ∷ rows) some each rise ends =
     rows_again (length (rows_bytes (row ∷ rows))) before last row rows (omega (arith, rows_long rows, length-append (row_bytes row) (rows_bytes rows), length-row row)) each rise (sym ends)
+
+-- what is read from bytes fits the entry that it was read for, whichever bytes they are
+pub rows_fit : (before : List ℕ) (e : IndexEntry) (body : List ℕ) (rows : List Row) → IsBytes body → all_rows_at before e.last body ≡ Ok rows → FitEntry before e rows
+rows_fit before e body rows fits read =
+    let t = rows_take (length body) before e.last body rows fits read in
+    record { some = t.some; each = t.each; rise = t.rise; last = t.ends }
+
+pub found_fits : (before : List ℕ) (e : IndexEntry) (body : List ℕ) (result : Result (List Row) TableFault) → IsBytes body → Finds (λ (rows : List Row). rows) result (rows_in before e body) → IfOk result (FitEntry before e)
+found_fits before e body (Ok rows) fits h = rows_fit before e body rows fits (ending_ok (e.place + e.size) (all_rows_at before e.last body) rows h)
+found_fits before e body (Err fault) fits h = tt
 
 -- ---- blocks
 

@@ -1,8 +1,9 @@
 -- What a builder holds of the rows that were added.
-use Rattle.std.specs.Prelude.{◌≡◌, ℕ, ◌+◌, ◌<◌, List, [], ◌++◌, length, Option, unwrap_or}
+use Rattle.std.specs.Prelude.{◌≡◌, ℕ, ◌+◌, ◌<◌, ◌==◌, List, [], ◌++◌, length, Option, Some, None, unwrap_or, if◌then◌else◌}
 use Rattle.std.specs.List.{AllByRecursion}
 use Rattle.keel_base.specs.declared.row.Row.{Row}
-use Rattle.keel_table.specs.Spelling.{IsRow, Ascend, last_key, rows_bytes, IsClosed, rows_of, blocks_bytes, index_bytes, entry_bytes}
+use Rattle.keel_base.specs.Rows.{IsRow}
+use Rattle.keel_table.specs.Spelling.{Ascend, last_key, rows_bytes, IsClosed, rows_of, checked, blocks_bytes, index_bytes, entry_bytes, IsTableOf}
 use Rattle.keel_table.specs.declared.index.Footer.{Footer}
 use Rattle.keel_table.specs.declared.builder.Builder.{Builder}
 use Rattle.keel_table.specs.declared.builder.Pieces.{Pieces}
@@ -45,9 +46,34 @@ footer_behind index place blocks b = record { index = place; size = length index
 abbrev pub key_before : Builder → List ℕ
 key_before b = b.last_key
 
+-- how many bytes the pieces that were given have, checks included
+abbrev pub bytes_given : Builder → ℕ
+bytes_given b = b.place
+
+-- how many pieces were given, a block each
+abbrev pub blocks_given : Builder → ℕ
+blocks_given b = b.blocks
+
+-- how many pieces there are
+abbrev pub pieces_of : Option (List ℕ) → ℕ
+pieces_of None = 0
+pieces_of (Some piece) = 1
+
+-- the bytes of the rows that are in no piece yet
+abbrev pub left_over : Builder → List ℕ
+left_over b = b.open_rows
+
+-- the last block, where rows are left
+abbrev pub last_block : List ℕ → Option (List ℕ)
+last_block rows = if length rows == 0 then None else Some (checked rows)
+
 -- the bytes of a piece, where there is one
 abbrev pub piece_bytes : Option (List ℕ) → List ℕ
 piece_bytes piece = unwrap_or piece []
+
+-- the bytes are the table of the rows, in so many blocks
+abbrev pub IsTableIn : ℕ → ℕ → ℕ → List Row → List ℕ → Type 0
+IsTableIn blocks first last rows bytes = (table : IsTableOf first last rows bytes) × (length table.blocks ≡ blocks)
 
 -- the bytes of the pieces at the end
 abbrev pub pieces_bytes : Pieces → List ℕ

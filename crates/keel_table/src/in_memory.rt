@@ -1,6 +1,7 @@
 // A table whose bytes are all in memory, as a file's are once they were read whole.
-ghost use Rattle.std.specs.Prelude.{◌≡◌, length};
+ghost use Rattle.std.specs.Prelude.{◌≡◌, length, IfOk};
 ghost use Rattle.keel_table.specs.Answers.{ChecksDiffer, Finds};
+ghost use Rattle.keel_table.specs.Blocks.{FitEntry};
 ghost use Rattle.keel_table.specs.Opening as spec;
 
 use crate::TableFault;
@@ -12,7 +13,7 @@ use keel_base::{Bytes, Rows};
 use std::alloc::Global;
 
 /// So many bytes from a place on, as far as they are there.
-fn part_at(bytes: &[u8], place: u64, size: u64) -> &[u8]
+pub(crate) fn part_at(bytes: &[u8], place: u64, size: u64) -> &[u8]
     ensures { result.now ≡ spec.part_at place size bytes.now }
 {
     if bytes.len() as u64 <= place {
@@ -63,6 +64,7 @@ pub fn block_in(
     entry: &IndexEntry,
 ) -> Result<Rows, TableFault>
     ensures answer { Finds (λ rows. rows) result (spec.block_found before.now entry.now bytes.now) }
+    ensures fit { IfOk result (FitEntry before.now entry.now) }
     ensures differ { ChecksDiffer result }
 {
     let body = checked_at(alloc, bytes, entry.place, entry.size)?;
