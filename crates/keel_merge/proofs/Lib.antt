@@ -8,3 +8,4 @@ pub mod Pulling
 pub mod Looking
 pub mod Holding
 pub mod Refilling
+pub mod Along

@@ -15,16 +15,18 @@ take_first-requires c =
 pub returns-in-Some : goal.returns-in-Some
 returns-in-Some c =
     let found = looked c.self.inside.lists.items c.as_slice.result.now c.in_ok-look.field-0 c.in-Some.at c.in_ok-look.ensures c.as_slice.ensures.value c.in-Some.is in
-    rw (← c.self.view_is)
-    (refl, record {
-      at = c.in-Some.at;
-      before = c.index_mut.result.now;
-      after = c.take_first.new.self;
-      within = stands_within c.self.inside.lists.items c.in-Some.at found.0 found.1;
-      stood = c.index_mut.ensures.value;
-      least = found.0;
-      stands = found.1;
-      rows = c.take_first.ensures.rows;
-      more = c.take_first.ensures.more;
-      new_is = refl;
-    })
+    rw (← c.self.view_is) (
+      refl,
+      record {
+        at = c.in-Some.at;
+        before = c.index_mut.result.now;
+        after = c.take_first.new.self;
+        within = stands_within c.self.inside.lists.items c.in-Some.at found.0 found.1;
+        stood = c.index_mut.ensures.value;
+        least = found.0;
+        stands = found.1;
+        rows = c.take_first.ensures.rows;
+        more = c.take_first.ensures.more;
+        new_is = refl;
+      },
+    )
