@@ -1,16 +1,16 @@
 -- What an edit leaves may come in an edit.
-use Rattle.std.proofs.Common.{◌≡◌, ℕ, suc, ◌≤◌, ◌^◌, ◌<◌, Bool, true, false, List, [], ◌∷◌, length, take, drop, Option, Some, None, Result, Ok, Err, All, refl, sym, ap, subst, ◌∙◌, ◌+◌, arith}
+use Rattle.std.proofs.Common.{◌≡◌, ℕ, suc, Bool, true, false, List, [], ◌∷◌, length, take, drop, Option, Some, None, Result, Ok, Err, All, refl, sym, ap, subst, ◌∙◌, ◌+◌, arith}
 use Rattle.std.specs.Prelude.{position, count_by, insert, remove, if◌then◌else◌}
 use Rattle.std.specs.List.{list_any, AllByRecursion}
-use Rattle.std.proofs.lemmas.List.Elements.{All-append, All-cons, All-nil, All-take, All-drop, All-head, All-tail}
+use Rattle.std.proofs.lemmas.List.Elements.{All-append, All-cons, All-take, All-drop, All-head, All-tail}
 use Rattle.keel_base.specs.Name.{IsFileNumber}
 use Rattle.keel_edit.specs.declared.edit.Added.{Added}
 use Rattle.keel_edit.specs.declared.edit.Removed.{Removed}
 use Rattle.keel_edit.specs.declared.edit.Edit.{Edit}
 use Rattle.keel_edit.specs.Spelling.{IsNumber, IsAdded, IsRemoved, IsEdit}
-use Rattle.keel_version.specs.Tables.{Contents, IsSound, IsWithin, clash, is_before}
-use Rattle.keel_version.specs.Applying.{is_named, without, take_off, put_on, each_fits, then_added, no_less, renumbered, applied}
-use Rattle.keel_version.specs.Behind.{MayCome, AppliedMayCome, whole, WholeIsEdit}
+use Rattle.keel_version.specs.Tables.{Contents, clash, is_before}
+use Rattle.keel_version.specs.Applying.{is_named, without, take_off, put_on, each_fits, then_added, no_less, renumbered}
+use Rattle.keel_version.specs.Behind.{MayCome, AppliedMayCome, WholeIsEdit}
 use Rattle.keel_version.proofs.Standing.{each_keeps}
 
 abbrev AllAdded : List Added → Type 0

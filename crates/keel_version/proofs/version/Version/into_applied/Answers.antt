@@ -1,7 +1,5 @@
 use Rattle.std.proofs.Common.{arith, All, refl}
 use Rattle.keel_edit.specs.Spelling.{IsAdded}
-use Rattle.keel_version.specs.Behind.{MayCome}
-use Rattle.keel_version.specs.Tables.{IsSound}
 use Rattle.keel_version.proofs.Standing.{sound, edits_have_levels}
 use Rattle.keel_version.proofs.Coming.{come, numbered}
 use Rattle.keel_version.proofs.version.Version.into_applied.Goals as goal
