@@ -1,10 +1,11 @@
 // The standing error.
 ghost use Rattle.std.specs.Prelude.{◌≡◌, ℕ, ◌+◌, ◌<◌, ◌↔◌, Bool, List, [], ◌∷◌, ◌++◌, Option, None, IsTrue};
 ghost use Rattle.keel_base.specs.declared.failure.Failure.{Failure};
+ghost use Rattle.keel_grade.specs.Grades.{grade_of};
 ghost use Rattle.keel_handler.specs.Failures.{severity as severity_of, may_pass as may_pass_of, is_passing as is_passing_of, standing_severity as standing_severity_of, IsStanding, Stops, WorkStops};
 
 use crate::{Due, Noted};
-use keel_base::{Failure, Fault};
+use keel_base::{Failure, Fault, Grade};
 use keel_grade::{grade, rank};
 use std::marker::Model;
 
@@ -61,6 +62,13 @@ impl Handler {
             due: 0,
             given_up: false,
         }
+    }
+
+    /// How bad a failure is by this handler's own setting of `paranoid`. It takes no note of it.
+    pub fn grade(&self, failure: Failure) -> Grade
+        ensures { result ≡ grade_of failure.reason failure.fault self.now.paranoid }
+    {
+        grade(failure.reason, failure.fault, self.paranoid)
     }
 
     /// Takes note of a failure. It replaces the standing error only where it is more severe, as in RocksDB. The count

@@ -1,5 +1,5 @@
 use crate::{Due, Handler, Noted, laws};
-use keel_base::{Failure, Fault, Reason};
+use keel_base::{Failure, Fault, Grade, Reason};
 use std::test::Fail;
 
 fn failure(reason: Reason, fault: Fault) -> Failure {
@@ -33,6 +33,14 @@ fn the_first_of_the_worst_failures_stands(rt: HostRuntime) -> Result<(), Fail> {
     assert_eq!(rt; handler.standing(), None);
     assert!(rt; !handler.work_stops());
     Ok(())
+}
+
+#[test]
+fn a_doubtful_failure_is_graded_by_the_setting(rt: HostRuntime) {
+    let full = failure(Reason::Flush, Fault::NoSpace);
+    for (paranoid, grade) in [(true, Grade::Hard), (false, Grade::NoError)] {
+        assert_eq!(rt; Handler::new(paranoid, true, 1, 1).grade(full), grade);
+    }
 }
 
 /// A handler over a standing error of this reason and fault, behind one attempt that ended at a tick where there is one.

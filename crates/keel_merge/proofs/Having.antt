@@ -8,8 +8,8 @@ use Rattle.keel_base.specs.Rows.{newer, newest}
 use Rattle.keel_merge.specs.Order.{IsBeforeAll, AreStrictlyAscending}
 use Rattle.keel_merge.specs.Merging.{stays, staying}
 use Rattle.keel_merge.specs.Laws.{HasTheNewest}
-use Rattle.keel_merge.proofs.KeyOrder.{lt_differs, eq_turned}
-use Rattle.keel_merge.proofs.Newer.{newest_here, newest_behind, newer_is_other, newer_is_row}
+use Rattle.keel_base.proofs.KeyOrder.{lt_differs, eq_turned}
+use Rattle.keel_base.proofs.Newest.{newest_here, newest_behind, newer_is_other, newer_is_row}
 use Rattle.keel_merge.proofs.Placing.{staying_row, staying_none}
 use Rattle.keel_merge.proofs.Unique.{first_found}
 

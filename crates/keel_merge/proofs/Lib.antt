@@ -1,9 +1,11 @@
-pub mod KeyOrder
+pub mod Behind
 pub mod Newer
 pub mod Placing
 pub mod Unique
 pub mod Stepping
-pub mod Least
-pub mod Passing
 pub mod Having
-pub mod Turning
+pub mod Pulling
+pub mod Looking
+pub mod Holding
+pub mod Refilling
+pub mod Along

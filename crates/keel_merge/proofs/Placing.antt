@@ -12,9 +12,11 @@ use Rattle.keel_base.specs.Keys.{key_cmp, key_lt, key_eq}
 use Rattle.keel_base.specs.Rows.{newer, newest}
 use Rattle.keel_merge.specs.Order.{IsBeforeAll, AreStrictlyAscending}
 use Rattle.keel_merge.specs.Merging.{stays, staying, IsMergeOf}
-use Rattle.keel_merge.specs.Taking.{placed, place, newest_rows, merged}
-use Rattle.keel_merge.proofs.KeyOrder.{eq_same, eq_turned, lt_differs, lt_lt_all}
-use Rattle.keel_merge.proofs.Newer.{newest_here, newest_behind, newest_none, newest_cons, newest_two, newer_of_key}
+use Rattle.keel_merge.specs.Placing.{placed, place, newest_rows, merged}
+use Rattle.keel_base.proofs.KeyOrder.{eq_same, eq_turned, lt_differs}
+use Rattle.keel_base.proofs.Newest.{newest_here, newest_behind, newest_cons}
+use Rattle.keel_merge.proofs.Behind.{lt_lt_all}
+use Rattle.keel_merge.proofs.Newer.{newest_none, newest_two, newer_of_key}
 
 turned : (a b : List ℕ) → key_cmp a b ≡ Greater → key_lt b a ≡ true
 turned a b e = ap is_lt (nat_list_cmp_total.antisymm b a ∙ ap ordering_reverse e)

@@ -5,11 +5,18 @@ use Rattle.keel_base.specs.Keys.{key_lt, key_eq}
 use Rattle.keel_base.specs.Rows.{newer, newest}
 use Rattle.keel_merge.specs.Order.{IsBeforeAll}
 use Rattle.keel_merge.specs.Merging.{stays, staying}
-use Rattle.keel_merge.specs.Taking.{merged, TakesNewest}
-use Rattle.keel_merge.proofs.KeyOrder.{eq_same}
-use Rattle.keel_merge.proofs.Newer.{newest_here, newest_behind, newest_none}
+use Rattle.keel_merge.specs.Placing.{merged}
+use Rattle.keel_base.proofs.KeyOrder.{eq_same}
+use Rattle.keel_base.proofs.Newest.{newest_here, newest_behind}
+use Rattle.keel_merge.proofs.Newer.{newest_none}
 use Rattle.keel_merge.proofs.Placing.{merged_is, merged_behind, staying_row, staying_none}
 use Rattle.keel_merge.proofs.Unique.{one_merge}
+
+-- the rows of the least key were taken off, of which this is the newest
+pub record TakesNewest (row : Row) (old new : List Row) : Type 0 where
+  pub newest_of_key : newest row.key old ≡ Some row
+  pub behind : IsBeforeAll key_lt row.key new
+  pub others : (other : List ℕ) → key_eq row.key other ≡ false → newest other old ≡ newest other new
 
 stays_by_key : (last_level : Bool) (row : Row) (old new : List Row) → TakesNewest row old new → stays last_level row ≡ true
     → (key : List ℕ) (b : Bool) → key_eq row.key key ≡ b → newest key (row ∷ merged last_level new) ≡ staying last_level (newest key old)
@@ -37,6 +44,14 @@ goes_by_key last_level row old new takes goes key true e =
     none ∙ sym (ap (staying last_level) found ∙ staying_none last_level row goes)
 goes_by_key last_level row old new takes goes key false e =
     (merged_is last_level new).newest_of_each key ∙ ap (staying last_level) (sym (takes.others key e))
+
+-- rows with the same newest rows have one merge
+pub merged_same : (last_level : Bool) (one other : List Row) → ((key : List ℕ) → newest key one ≡ newest key other) → merged last_level one ≡ merged last_level other
+merged_same last_level one other alike =
+    one_merge one (merged last_level one) (merged last_level other) last_level (merged_is last_level one) (record {
+      ascending = (merged_is last_level other).ascending;
+      newest_of_each = λ key. (merged_is last_level other).newest_of_each key ∙ ap (staying last_level) (sym (alike key));
+    })
 
 pub merged_next : (last_level : Bool) (row : Row) (old new : List Row) → TakesNewest row old new → stays last_level row ≡ true
     → merged last_level old ≡ row ∷ merged last_level new

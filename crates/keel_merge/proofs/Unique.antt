@@ -10,8 +10,10 @@ use Rattle.keel_base.specs.Keys.{key_cmp, key_lt, key_eq}
 use Rattle.keel_base.specs.Rows.{newer, newest}
 use Rattle.keel_merge.specs.Order.{IsBeforeAll, AreStrictlyAscending}
 use Rattle.keel_merge.specs.Laws.{OneMerge}
-use Rattle.keel_merge.proofs.KeyOrder.{eq_same, eq_itself, lt_lt_all}
-use Rattle.keel_merge.proofs.Newer.{newest_here, newest_behind, newest_none}
+use Rattle.keel_base.proofs.KeyOrder.{eq_same, eq_itself}
+use Rattle.keel_base.proofs.Newest.{newest_here, newest_behind}
+use Rattle.keel_merge.proofs.Behind.{lt_lt_all}
+use Rattle.keel_merge.proofs.Newer.{newest_none}
 
 pub first_found : (row : Row) (rows : List Row) → IsBeforeAll key_lt row.key rows → newest row.key (row ∷ rows) ≡ Some row
 first_found row rows all = newest_here row.key row rows (eq_itself row.key) ∙ ap (newer row) (newest_none row.key rows all)

@@ -1,5 +1,5 @@
 -- What a merge gives.
-use Rattle.std.specs.Prelude.{◌≡◌, ℕ, Bool, true, false, not, ◌&&◌, List, [], ◌∷◌, Option, Some, None, if◌then◌else◌}
+use Rattle.std.specs.Prelude.{◌≡◌, ℕ, Bool, true, false, not, ◌&&◌, List, Option, Some, None, if◌then◌else◌}
 use Rattle.std.specs.List.{flat_map}
 use Rattle.keel_base.specs.declared.row.Row.{Row}
 use Rattle.keel_base.specs.declared.row.Kind.{Kind}
@@ -28,8 +28,3 @@ staying last_level (Some row) = if stays last_level row then Some row else None
 pub record IsMergeOf (rows : List Row) (last_level : Bool) (merged : List Row) : Type 0 where
   pub ascending : AreStrictlyAscending merged
   pub newest_of_each : (key : List ℕ) → newest key merged ≡ staying last_level (newest key rows)
-
--- the first of the rows that were to come was given, or there were none
-abbrev pub IsNext : Option Row → List Row → List Row → Type 0
-IsNext None old new = (old ≡ []) × (new ≡ [])
-IsNext (Some row) old new = old ≡ row ∷ new

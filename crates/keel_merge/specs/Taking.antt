@@ -1,54 +1,19 @@
--- The rows that a merge has left, and how it takes them.
-use Rattle.std.specs.Prelude.{◌≡◌, ℕ, ◌<◌, ◌≤◌, Bool, false, List, [], ◌∷◌, length, filter, reverse, take, slice_index_or, nat_lt, if◌then◌else◌, Option, Some, None}
-use Rattle.std.specs.List.{flat_map}
+-- How a merge takes its rows: one at a time, always one of the least key of all.
+use Rattle.std.specs.Prelude.{◌≡◌, ℕ, zero, suc, ◌+◌, ◌<◌, Bool, true, false, List, [], ◌∷◌, length, slice_index_or, slice_set, if◌then◌else◌, Option, Some, None, Result, Ok, Err}
 use Rattle.std.specs.Option.{option_map}
 use Rattle.std.specs.Borrow.{Bor}
-use Rattle.std.specs.declared.cmp.Ordering.{Ordering}
-use Rattle.std.specs.declared.cmp.Ordering.TheVariants.{Less, Equal, Greater}
 use Rattle.keel_base.specs.declared.row.Row.{Row}
-use Rattle.keel_base.specs.Keys.{key_cmp, key_eq, key_lt, key_le}
-use Rattle.keel_base.specs.Rows.{newest}
-use Rattle.keel_merge.specs.Order.{IsBeforeAll, AreAscending}
-use Rattle.keel_merge.specs.Merging.{stays}
-
--- of two rows of a key the newer, and the first where they have one number
-abbrev pub newer_of : Row → Row → Row
-newer_of row other = if nat_lt row.seq other.seq then other else row
-
--- a row at its place between rows in order, or in place of one of its key, by how it compares with the first of them
-abbrev pub placed : Ordering → Row → Row → List Row → List Row → List Row
-placed Less row other rows behind = row ∷ other ∷ rows
-placed Equal row other rows behind = newer_of row other ∷ rows
-placed Greater row other rows behind = other ∷ behind
-
-abbrev pub place : Row → List Row → List Row
-place row [] = row ∷ []
-place row (other ∷ rows) = placed (key_cmp row.key other.key) row other rows (place row rows)
-
-abbrev pub newest_rows : List Row → List Row
-newest_rows [] = []
-newest_rows (row ∷ rows) = place row (newest_rows rows)
-
--- the merge of rows
-unfoldable pub merged : Bool → List Row → List Row
-merged last_level rows = filter (stays last_level) (newest_rows rows)
-
--- the rows of lists whose first row stands at the end
-abbrev pub coming : List (List Row) → List Row
-coming lists = flat_map reverse lists
-
-abbrev pub AreTurned : List (List Row) → Type 0
-AreTurned [] = Unit {0}
-AreTurned (rows ∷ lists) = AreAscending (reverse rows) × AreTurned lists
+use Rattle.keel_base.specs.Keys.{key_eq, key_lt, key_le}
+use Rattle.keel_merge.specs.declared.next.Next.{Next}
+use Rattle.keel_merge.specs.declared.next.Next.TheVariants.{Merged, Refill, End}
+use Rattle.keel_merge.specs.declared.look.Wanting.{Wanting as WantingList}
+use Rattle.keel_merge.specs.Merging.{rows_of, staying}
+use Rattle.keel_merge.specs.Placing.{newer_of}
+use Rattle.keel_merge.specs.Feeding.{Waiting, MergeState, to_come, IsWanting}
 
 abbrev pub first_row : List Row → Option Row
 first_row [] = None
 first_row (row ∷ rows) = Some row
-
--- the rows begin with one of that key
-abbrev pub begins_with : List ℕ → List Row → Bool
-begins_with key [] = false
-begins_with key (row ∷ rows) = key_eq row.key key
 
 abbrev pub seen : Option (ℕ × Bor Row) → Option (ℕ × Row)
 seen found = option_map (λ f. (f.0, f.1.now)) found
@@ -59,28 +24,91 @@ lesser at None found = found
 lesser at (Some row) None = Some (at, row)
 lesser at (Some row) (Some found) = if key_lt row.key found.1.key then Some (at, row) else Some found
 
--- the rows of a key were taken off, and all others are behind it
-pub record TakesKey (key : List ℕ) (old new : List Row) : Type 0 where
-  pub behind : IsBeforeAll key_lt key new
-  pub others : (other : List ℕ) → key_eq key other ≡ false → newest other old ≡ newest other new
-  pub no_more : length new ≤ length old
+-- there is a first row, or no more may come
+abbrev pub IsReady : Option Row → Bool → Type 0
+IsReady None more = more ≡ false
+IsReady (Some row) more = Unit {0}
 
--- the first row at that place is the first of all that have the least key
-pub record IsLeast (lists : List (List Row)) (at : ℕ) (row : Row) : Type 0 where
-  pub within : at < length lists
-  pub rest : List Row
-  pub stands : reverse (slice_index_or lists at []) ≡ row ∷ rest
-  pub behind : IsBeforeAll key_lt row.key (coming (take at lists))
-  pub least : IsBeforeAll key_le row.key (coming lists)
+-- the less of what was found and the first row of a list, or the list has to be refilled
+abbrev pub Weighs : ℕ → Waiting → Option (ℕ × Row) → Result (Option (ℕ × Bor Row)) WantingList → Type 0
+Weighs at list found (Ok best) = IsReady (first_row list.rows) list.more × (seen best ≡ lesser at (first_row list.rows) found)
+Weighs at list found (Err w) = (first_row list.rows ≡ None) × (list.more ≡ true) × (w.list ≡ at)
 
--- that is the first of the rows that have the least key, or there are no rows
-abbrev pub IsLeastSeen : List (List Row) → Option (ℕ × Row) → Type 0
-IsLeastSeen lists None = coming lists ≡ []
-IsLeastSeen lists (Some found) = IsLeast lists found.0 found.1
+-- the first row stands so behind the key, or no row waits and none comes
+abbrev pub IsOver : (List ℕ → List ℕ → Bool) → List ℕ → Option Row → Bool → Type 0
+IsOver before key None more = more ≡ false
+IsOver before key (Some row) more = before key row.key ≡ true
 
--- the rows of the least key were taken off, of which this is the newest
-pub record TakesNewest (row : Row) (old new : List Row) : Type 0 where
-  pub newest_of_key : newest row.key old ≡ Some row
-  pub behind : IsBeforeAll key_lt row.key new
-  pub others : (other : List ℕ) → key_eq row.key other ≡ false → newest other old ≡ newest other new
-  pub fewer : length new < length old
+abbrev pub AreOver : (List ℕ → List ℕ → Bool) → List ℕ → List Waiting → Type 0
+AreOver before key [] = Unit {0}
+AreOver before key (list ∷ lists) = IsOver before key (first_row list.rows) list.more × AreOver before key lists
+
+-- the row stands first at that place, and is the first of the first rows that have the least key
+abbrev pub StandsLeast : List Waiting → ℕ → Row → Type 0
+StandsLeast [] at row = ⊥
+StandsLeast (list ∷ lists) zero row = (first_row list.rows ≡ Some row) × AreOver key_le row.key lists
+StandsLeast (list ∷ lists) (suc at) row = IsOver key_lt row.key (first_row list.rows) list.more × StandsLeast lists at row
+
+-- no row waits, and none comes
+abbrev pub HaveEnded : List Waiting → Type 0
+HaveEnded [] = Unit {0}
+HaveEnded (list ∷ lists) = ((first_row list.rows ≡ None) × (list.more ≡ false)) × HaveEnded lists
+
+abbrev pub AreSeen : List Waiting → Option (ℕ × Row) → Type 0
+AreSeen lists None = HaveEnded lists
+AreSeen lists (Some found) = StandsLeast lists found.0 found.1
+
+-- where the least first row stands, whether none is left, or which list has to be refilled
+abbrev pub Looks : List Waiting → Result (Option ℕ) WantingList → Type 0
+Looks lists (Ok None) = HaveEnded lists
+Looks lists (Ok (Some at)) = (row : Row) × StandsLeast lists at row
+Looks lists (Err w) = IsWanting lists w.list
+
+-- the least first row was taken off its list
+pub record IsTaken (old new : List Waiting) (row : Row) : Type 0 where
+  pub at : ℕ
+  pub before : Waiting
+  pub after : Waiting
+  pub within : at < length old
+  pub stood : before ≡ slice_index_or old at before
+  pub least : Row
+  pub stands : StandsLeast old at least
+  pub rows : before.rows ≡ row ∷ after.rows
+  pub more : after.more ≡ before.more
+  pub new_is : new ≡ slice_set old at after
+
+abbrev pub Takes : MergeState → MergeState → Result (Option Row) WantingList → Type 0
+Takes old new (Ok None) = (new ≡ old) × HaveEnded old.lists
+Takes old new (Ok (Some row)) = (new ≡ record old { lists = new.lists }) × IsTaken old.lists new.lists row
+Takes old new (Err w) = (new ≡ old) × IsWanting old.lists w.list
+
+-- how many rows wait
+abbrev pub count_of : List Waiting → ℕ
+count_of [] = 0
+count_of (list ∷ lists) = length list.rows + count_of lists
+
+-- the row that is held behind another one
+abbrev pub held_after : Option Row → Row → Option Row
+held_after None row = Some row
+held_after (Some held) row = if key_eq held.key row.key then Some (newer_of held row) else Some row
+
+-- what is handed out then
+abbrev pub given : Bool → Option Row → Row → Option Row
+given last_level None row = None
+given last_level (Some held) row = if key_eq held.key row.key then None else staying last_level (Some held)
+
+-- what is answered where no list has a row
+abbrev pub last_of : Option Row → Next
+last_of None = End
+last_of (Some row) = Merged row
+
+-- the next row was handed out; or a list has to be refilled; or all has been fed and handed out
+abbrev pub Steps : Next → List (List Row) → MergeState → MergeState → Type 0
+Steps (Merged row) coming old new = to_come old coming ≡ row ∷ to_come new coming
+Steps (Refill list) coming old new = to_come old coming ≡ to_come new coming
+Steps End coming old new = (to_come old coming ≡ []) × (to_come new coming ≡ []) × (rows_of coming ≡ [])
+
+abbrev pub IsAsked : Next → MergeState → Type 0
+IsAsked (Merged row) new = Unit {0}
+IsAsked (Refill list) new = IsWanting new.lists list
+IsAsked End new = Unit {0}

@@ -1,5 +1,5 @@
 //! What holds of merges, as the contracts of functions that do nothing.
-ghost use Rattle.keel_merge.specs.Laws.{OneMerge, HasTheNewest, SameMap};
+ghost use Rattle.keel_merge.specs.Laws.{OneMerge, HandsOutAll, HasTheNewest, SameMap};
 
 /// Rows have one merge.
 pub fn one_merge()
@@ -14,4 +14,10 @@ pub fn has_the_newest()
 /// It leaves the map that the rows leave.
 pub fn same_map()
     ensures { SameMap }
+{}
+
+/// What a merge handed out, and what it will hand out, are the merge of its lists behind each call and each refill; so at
+/// the end all rows that were handed out are that merge.
+pub fn hands_out_all()
+    ensures { HandsOutAll }
 {}

@@ -1,10 +1,31 @@
--- What becomes of the options where one of them is changed.
+-- The standard options, and what becomes of options where one of them is changed.
 use Rattle.std.proofs.Common.{◌≡◌, ◌≢◌, ◌≤◌, ℕ, zero, suc, ◌==◌, refl, arith}
 use Rattle.keel_base.specs.declared.options.Options.{Options}
-use Rattle.keel_base.specs.Options.{AreInRange}
+use Rattle.keel_base.specs.Options.{AreInRange, standard}
 use Rattle.keel_script.specs.declared.option_name.OptionName.{OptionName}
 use Rattle.keel_script.specs.declared.option_name.OptionName.TheVariants.{Paranoid, Auto, Attempts, Interval, WriteBuffer, MaxImmutables, Level0Trigger, LevelBase, TableSize, Limit, Buffer, Rate, Ratio, Chunk}
-use Rattle.keel_settings.specs.Values.{IsWithin, SetsOne, of_switch, value_in, with_value}
+use Rattle.keel_settings.specs.Values.{IsWithin, AreDefaults, SetsOne, of_switch, value_in, with_value}
+use Rattle.keel_script.specs.Options.{default_of}
+
+-- the standard options are the defaults of their names
+is_default : (name : OptionName) → value_in name standard ≡ default_of name
+is_default Paranoid = refl
+is_default Auto = refl
+is_default Attempts = refl
+is_default Interval = refl
+is_default WriteBuffer = refl
+is_default MaxImmutables = refl
+is_default Level0Trigger = refl
+is_default LevelBase = refl
+is_default TableSize = refl
+is_default Limit = refl
+is_default Buffer = refl
+is_default Rate = refl
+is_default Ratio = refl
+is_default Chunk = refl
+
+pub standard_is_default : AreDefaults standard
+standard_is_default = record { each = is_default }
 
 -- every option stays in its range
 pub stays_in_range : (name : OptionName) (value : ℕ) (old : Options) → IsWithin name value → AreInRange old → AreInRange (with_value name value old)

@@ -5,8 +5,8 @@
 #![tactic(auto)]
 
 ghost use Rattle.std.specs.Prelude.{◌≡◌, ◌↔◌, IsOk, IfErr, OnOk, OnErr};
-ghost use Rattle.keel_base.specs.Options.{AreInRange};
-ghost use Rattle.keel_script.specs.Options.{range_of, default_of};
+ghost use Rattle.keel_base.specs.Options.{AreInRange, standard};
+ghost use Rattle.keel_script.specs.Options.{range_of};
 ghost use Rattle.keel_settings.specs.Values.{IsWithin, SetsOne, AreDefaults, with_value};
 
 use keel_base::Options;
@@ -31,12 +31,13 @@ impl Model for Settings {
 }
 
 impl Settings {
-    /// Nothing was set yet.
+    /// Nothing was set yet: the standard options, each of which is the default of its name.
     pub fn new() -> Self
-        ensures { AreDefaults result }
+        ensures standard { result ≡ standard }
+        ensures defaults { AreDefaults result }
     {
         Settings {
-            options: defaults(),
+            options: Options::standard(),
         }
     }
 
@@ -61,28 +62,6 @@ impl Settings {
         ensures in_range { AreInRange self.now }
     {
         &self.options
-    }
-}
-
-fn defaults() -> Options
-    ensures defaults { AreDefaults result }
-    ensures in_range { AreInRange result }
-{
-    Options {
-        paranoid: OptionName::Paranoid.default() == 1,
-        auto: OptionName::Auto.default() == 1,
-        attempts: OptionName::Attempts.default() as u32,
-        interval: OptionName::Interval.default(),
-        write_buffer: OptionName::WriteBuffer.default(),
-        max_immutables: OptionName::MaxImmutables.default() as u32,
-        level0_trigger: OptionName::Level0Trigger.default() as u32,
-        level_base: OptionName::LevelBase.default(),
-        table_size: OptionName::TableSize.default(),
-        limit: OptionName::Limit.default(),
-        buffer: OptionName::Buffer.default(),
-        rate: OptionName::Rate.default(),
-        ratio: OptionName::Ratio.default() as u32,
-        chunk: OptionName::Chunk.default(),
     }
 }
 

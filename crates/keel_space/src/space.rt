@@ -117,6 +117,30 @@ impl Space {
         find(self.tracked.files.as_slice(), name).is_some()
     }
 
+    /// The tracked size of a name; none exactly where the name isn't tracked.
+    pub fn size(&self, name: FileName) -> Option<u64>
+        ensures { result ≡ size_of name self.now.tracked }
+    {
+        match find(self.tracked.files.as_slice(), name) {
+            Some(place) => Some(self.tracked.files[place].size),
+            None => None,
+        }
+    }
+
+    /// The limit, 0 for none.
+    pub fn limit(&self) -> u64
+        ensures { result ≡ self.now.limit }
+    {
+        self.limit
+    }
+
+    /// What a compaction must leave free below the limit.
+    pub fn buffer(&self) -> u64
+        ensures { result ≡ self.now.buffer }
+    {
+        self.buffer
+    }
+
     /// The bytes of all tracked files.
     pub fn total(&self) -> u128
         ensures { result ≡ total_of self.now.tracked }

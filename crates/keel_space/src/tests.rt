@@ -25,6 +25,8 @@ fn totals_follow_every_call(rt: HostRuntime) -> Result<(), Fail> {
     assert_eq!(rt; totals, [(192, 0), (192, 100), (152, 60), (92, 0)]);
     assert!(rt; space.tracks(FileName::Table(5)));
     assert!(rt; !space.tracks(FileName::Trash(4)));
+    assert_eq!(rt; space.size(FileName::Table(5)), Some(92));
+    assert_eq!(rt; space.size(FileName::Trash(4)), None);
     assert!(rt; space.reached());
     Ok(())
 }
@@ -44,6 +46,7 @@ fn a_compaction_starts_where_there_is_room(rt: HostRuntime) -> Result<(), Fail> 
         space.grow(1).ok().ok_or("memory")?;
         space.track(FileName::Table(3), 92);
         space.set_limit(limit);
+        assert!(rt; space.limit() == limit && space.buffer() == buffer);
         assert_eq!(rt; space.reached(), reached);
         assert_eq!(rt; space.room(92), room);
         // Another compaction holds room until it ends.

@@ -4,3 +4,4 @@ pub mod Levels
 pub mod Newest
 pub mod Members
 pub mod Ranges
+pub mod Coming

@@ -1,12 +1,13 @@
 -- Lookup finds the row of the greatest number.
-use Rattle.std.proofs.Common.{◌≡◌, ℕ, zero, suc, ◌<◌, ◌≤◌, Bool, true, false, cond, ltb, List, [], ◌∷◌, ◌++◌, length, get_or, Option, Some, None, refl, sym, ap, subst, ◌∙◌, arith, inl, inr, ◌⊎◌}
+use Rattle.std.proofs.Common.{◌≡◌, ℕ, zero, suc, ◌<◌, ◌≤◌, Bool, true, false, cond, ltb, List, [], ◌∷◌, length, get_or, Option, Some, None, refl, sym, ap, subst, ◌∙◌, arith, inl, inr, ◌⊎◌}
 use Rattle.std.specs.Prelude.{Contains, MatchOption}
-use Rattle.std.proofs.lemmas.Bool.{ltb-true, ltb-false, lt-ltb, le-ltb}
+use Rattle.std.proofs.lemmas.Bool.{ltb-true, ltb-false}
 use Rattle.std.proofs.lemmas.List.Concat.{flat_map-cons}
 use Rattle.std.proofs.lemmas.List.Elements.{Contains-append_cases, Contains-append_left, Contains-append_right}
 use Rattle.keel_base.specs.declared.row.Row.{Row}
 use Rattle.keel_base.specs.Keys.{key_eq}
 use Rattle.keel_base.specs.Rows.{newer, newest}
+use Rattle.keel_base.proofs.Newest.{newest-append}
 use Rattle.keel_version.specs.Lookup.{joined, IsNewest, HasNone, FindsGreatest, newer_of, LooksInEach, AreDistinct, AnyOrder}
 
 -- ---- elements
@@ -98,39 +99,11 @@ finds_greatest key (row ∷ rows) = one_more key row rows (newest key rows) (key
 
 -- ---- tables one by one
 
-newer_alone : (row one : Row) (b : Bool) → newer_of (cond b (Some one) (Some row)) None ≡ cond b (Some one) (Some row)
-newer_alone row one true = refl
-newer_alone row one false = refl
-
-newer_by : (row one other : Row) (b c : Bool) → ltb row.seq one.seq ≡ b → ltb one.seq other.seq ≡ c
-    → newer_of (cond b (Some one) (Some row)) (Some other) ≡ newer row (cond c (Some other) (Some one))
-newer_by row one other true true is_b is_c =
-    let over : ltb row.seq other.seq ≡ true = lt-ltb row.seq other.seq (omega (arith, ltb-true row.seq one.seq is_b, ltb-true one.seq other.seq is_c)) in
-    rw (is_c, over) refl
-newer_by row one other true false is_b is_c = rw (is_c, is_b) refl
-newer_by row one other false true is_b is_c = refl
-newer_by row one other false false is_b is_c =
-    let under : ltb row.seq other.seq ≡ false = le-ltb row.seq other.seq (omega (arith, ltb-false row.seq one.seq is_b, ltb-false one.seq other.seq is_c)) in
-    rw (under, is_b) refl
-
-newer_grouped : (row : Row) (one other : Option Row) → newer_of (newer row one) other ≡ newer row (newer_of one other)
-newer_grouped row None other = refl
-newer_grouped row (Some one) None = newer_alone row one (ltb row.seq one.seq)
-newer_grouped row (Some one) (Some other) = newer_by row one other (ltb row.seq one.seq) (ltb one.seq other.seq) refl refl
-
-joined_by : (row : Row) (b : Bool) (found others all : Option Row) → all ≡ newer_of found others → cond b (newer row all) all ≡ newer_of (cond b (newer row found) found) others
-joined_by row true found others all e = ap (newer row) e ∙ sym (newer_grouped row found others)
-joined_by row false found others all e = e
-
-newest_joined : (key : List ℕ) (xs ys : List Row) → newest key (xs ++ ys) ≡ newer_of (newest key xs) (newest key ys)
-newest_joined key [] ys = refl
-newest_joined key (row ∷ rows) ys = joined_by row (key_eq row.key key) (newest key rows) (newest key ys) (newest key (rows ++ ys)) (newest_joined key rows ys)
-
 pub looks_in_each : LooksInEach
 looks_in_each key [] = refl
 looks_in_each key (rows ∷ tables) =
     ap (newest key) (flat_map-cons (λ (r : List Row). r) rows tables)
-    ∙ newest_joined key rows (joined tables)
+    ∙ newest-append key rows (joined tables)
     ∙ ap (newer_of (newest key rows)) (looks_in_each key tables)
 
 -- ---- the order of tables

@@ -1,33 +1,12 @@
 -- What is near tables meets their range.
-use Rattle.std.proofs.Common.{◌≡◌, ℕ, Bool, true, false, List, [], ◌∷◌, refl, sym, ap, subst, ◌∙◌, inl, inr, ◌⊎◌}
-use Rattle.std.specs.Prelude.{not, ◌||◌, Contains}
+use Rattle.std.proofs.Common.{◌≡◌, ℕ, Bool, true, false, List, [], ◌∷◌, refl, sym, ap, ◌∙◌, inl, inr, ◌⊎◌}
+use Rattle.std.specs.Prelude.{◌||◌, Contains}
 use Rattle.std.specs.List.{list_any}
-use Rattle.std.specs.declared.cmp.Ordering.{Ordering}
-use Rattle.std.specs.declared.cmp.Ordering.TheVariants.{Less, Equal, Greater}
-use Rattle.std.specs.Ordering.{is_gt}
-use Rattle.std.proofs.lemmas.Cmp.{nat_list_cmp_total}
-use Rattle.std.proofs.lemmas.Map.Lookups.{exact_bytes}
-use Rattle.keel_base.specs.Keys.{key_cmp, key_le}
+use Rattle.keel_base.specs.Keys.{key_le}
+use Rattle.keel_base.proofs.KeyOrder.{le_then_le}
 use Rattle.keel_edit.specs.declared.edit.Added.{Added}
 use Rattle.keel_version.specs.Ranges.{IsRange, NearIsMeeting}
 use Rattle.keel_version.proofs.Newest.{head_in, tail_in, in_cons, in_nil}
-
--- ---- the order of keys
-
-le_cases : (o : Ordering) → not (is_gt o) ≡ true → (o ≡ Less) ⊎ (o ≡ Equal)
-le_cases Less h = inl refl
-le_cases Equal h = inr refl
-le_cases Greater h = absurd cc
-
-key_le_trans : (a b c : List ℕ) → key_le a b ≡ true → key_le b c ≡ true → key_le a c ≡ true
-key_le_trans a b c first second =
-    elim (le_cases (key_cmp a b) first) [
-      | inl less ↦ elim (le_cases (key_cmp b c) second) [
-        | inl less_too ↦ ap (λ (o : Ordering). not (is_gt o)) (nat_list_cmp_total.trans a b c less less_too)
-        | inr same ↦ subst (λ (k : List ℕ). key_le a k ≡ true) (exact_bytes b c same) first
-      ]
-      | inr same ↦ subst (λ (k : List ℕ). key_le k c ≡ true) (sym (exact_bytes a b same)) second
-    ]
 
 -- ---- some of a list
 
@@ -78,7 +57,7 @@ begins_by tables least greatest key range =
     same_truth (list_any (λ t. key_le t.least key) tables) (key_le least key)
     (λ some.
     let found = any_some (λ t. key_le t.least key) tables some in
-    key_le_trans least found.table.least key (range.from found.table found.stands) found.passes)
+    le_then_le least found.table.least key (range.from found.table found.stands) found.passes)
     (λ below. any_from (λ t. key_le t.least key) tables range.first range.begins (ap (λ (k : List ℕ). key_le k key) range.least_is ∙ below))
 
 ends_from : (tables : List Added) (least greatest key : List ℕ) → IsRange tables least greatest → list_any (λ t. key_le key t.greatest) tables ≡ key_le key greatest
@@ -86,7 +65,7 @@ ends_from tables least greatest key range =
     same_truth (list_any (λ t. key_le key t.greatest) tables) (key_le key greatest)
     (λ some.
     let found = any_some (λ t. key_le key t.greatest) tables some in
-    key_le_trans key found.table.greatest greatest found.passes (range.upto found.table found.stands))
+    le_then_le key found.table.greatest greatest found.passes (range.upto found.table found.stands))
     (λ below. any_from (λ t. key_le key t.greatest) tables range.last range.ends (ap (key_le key) range.greatest_is ∙ below))
 
 pub near_is_meeting : NearIsMeeting

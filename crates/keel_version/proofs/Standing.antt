@@ -181,16 +181,17 @@ pub rest_of : (found : Option (List Added)) (entry : ℕ) (next : List Added →
 rest_of None entry next after e = absurd cc
 rest_of (Some between) entry next after e = (between, refl, e)
 
-each_keeps : {E : Type 0} (change : E → List Added → Option (List Added)) (Fit : E → Type 0)
-    → ((e : E) (tables after : List Added) → Fit e → change e tables ≡ Some after → Stand tables → Stand after)
-    → (entry : ℕ) (es : List E) (tables after : List Added) → AllByRecursion Fit es → each_fits change entry es tables ≡ Ok after → Stand tables → Stand after
+-- what each entry keeps all keep
+pub each_keeps : {E : Type 0} (P : List Added → Type 0) (change : E → List Added → Option (List Added)) (Fit : E → Type 0)
+    → ((e : E) (tables after : List Added) → Fit e → change e tables ≡ Some after → P tables → P after)
+    → (entry : ℕ) (es : List E) (tables after : List Added) → AllByRecursion Fit es → each_fits change entry es tables ≡ Ok after → P tables → P after
 unfolding each_fits
-each_keeps change Fit keeps entry [] tables after fit e h =
+each_keeps P change Fit keeps entry [] tables after fit e h =
     let same : tables ≡ after = cc in
-    subst Stand same h
-each_keeps change Fit keeps entry (e ∷ es) tables after fit is h =
+    subst P same h
+each_keeps P change Fit keeps entry (e ∷ es) tables after fit is h =
     let rest = rest_of (change e tables) entry (λ between. each_fits change (entry + 1) es between) after is in
-    each_keeps change Fit keeps (entry + 1) es rest.0 after fit.1 rest.2 (keeps e tables rest.0 fit.0 rest.1 h)
+    each_keeps P change Fit keeps (entry + 1) es rest.0 after fit.1 rest.2 (keeps e tables rest.0 fit.0 rest.1 h)
 
 -- ---- an edit
 
@@ -198,15 +199,15 @@ pub stand : (edit : Edit) (tables left after : List Added) → HasLevels edit �
     → each_fits take_off 0 edit.removed tables ≡ Ok left → each_fits put_on (length edit.removed) edit.added left ≡ Ok after → Stand after
 stand edit tables left after levels sound goes comes =
     let before : Stand tables = record { apart = sound.apart; levels = sound.levels } in
-    let between = each_keeps take_off (λ (r : Removed). r.level ≤ 3) take_off_keeps 0 edit.removed tables left levels.removed goes before in
-    each_keeps put_on (λ (a : Added). a.level ≤ 3) put_on_keeps (length edit.removed) edit.added left after levels.added comes between
+    let between = each_keeps Stand take_off (λ (r : Removed). r.level ≤ 3) take_off_keeps 0 edit.removed tables left levels.removed goes before in
+    each_keeps Stand put_on (λ (a : Added). a.level ≤ 3) put_on_keeps (length edit.removed) edit.added left after levels.added comes between
 
 -- the same of an edit's lists as the code has them
-pub sound : (edit : Edit) (tables copies left after : List Added) (going : List Removed) (coming : List Added) (first : ℕ) → HasLevels edit → IsSound tables
-    → copies ≡ tables → going ≡ edit.removed → coming ≡ edit.added → first ≡ length going
-    → each_fits take_off 0 going copies ≡ Ok left → each_fits put_on first coming left ≡ Ok after → length after < 2 ^ 32 → IsSound after
-sound edit tables copies left after going coming first levels before is goes comes count takes puts few =
-    let taken : each_fits take_off 0 edit.removed tables ≡ Ok left = rw (← is, ← goes) takes in
+pub sound : (edit : Edit) (tables left after : List Added) (going : List Removed) (coming : List Added) (first : ℕ) → HasLevels edit → IsSound tables
+    → going ≡ edit.removed → coming ≡ edit.added → first ≡ length going
+    → each_fits take_off 0 going tables ≡ Ok left → each_fits put_on first coming left ≡ Ok after → length after < 2 ^ 32 → IsSound after
+sound edit tables left after going coming first levels before goes comes count takes puts few =
+    let taken : each_fits take_off 0 edit.removed tables ≡ Ok left = rw (← goes) takes in
     let counted : first ≡ length edit.removed = count ∙ ap length goes in
     let put : each_fits put_on (length edit.removed) edit.added left ≡ Ok after = rw (← counted, ← comes) puts in
     let all = stand edit tables left after levels before taken put in

@@ -1,8 +1,9 @@
 -- The tables of a store on their levels.
-use Rattle.std.specs.Prelude.{◌≡◌, ℕ, ◌^◌, ◌<◌, Bool, true, not, ◌&&◌, ◌||◌, ◌==◌, List, [], ◌∷◌, length, nat_lt, nat_le}
+use Rattle.std.specs.Prelude.{◌≡◌, ℕ, ◌^◌, ◌<◌, Bool, true, not, ◌&&◌, ◌||◌, ◌==◌, List, [], ◌∷◌, length, All, nat_lt, nat_le}
 use Rattle.std.specs.List.{list_all}
 use Rattle.keel_base.specs.Keys.{key_le}
 use Rattle.keel_edit.specs.declared.edit.Added.{Added}
+use Rattle.keel_edit.specs.Spelling.{IsNumber, IsAdded}
 
 -- the tables by level, then by number, and the numbers of the last edit
 pub record Contents : Type 0 where
@@ -45,3 +46,10 @@ pub record IsSound (tables : List Added) : Type 0 where
   pub apart : are_apart tables ≡ true
   pub levels : have_levels tables ≡ true
   pub few : length tables < 2 ^ 32
+
+-- each table is one that an edit may bring, and the numbers are at most 2^56
+pub record IsWithin (contents : Contents) : Type 0 where
+  pub tables : All IsAdded contents.tables
+  pub min_log : IsNumber contents.min_log
+  pub next_file : IsNumber contents.next_file
+  pub last_seq : IsNumber contents.last_seq

@@ -1,7 +1,7 @@
 //! What holds of versions and lookups, as the contracts of functions that do nothing.
 ghost use Rattle.keel_version.specs.Lookup.{AnyOrder, FindsGreatest, LooksInEach};
 ghost use Rattle.keel_version.specs.Applying.{EditsHaveLevels};
-ghost use Rattle.keel_version.specs.Behind.{AppliedLeaves, FirstIsLeast, WholeEdit};
+ghost use Rattle.keel_version.specs.Behind.{AppliedLeaves, AppliedMayCome, FirstIsLeast, WholeEdit, WholeIsEdit};
 ghost use Rattle.keel_version.specs.Ranges.{NearIsMeeting};
 
 /// Of all rows of a key the one of the greatest sequence number is found, and nothing exactly where there is none.
@@ -33,6 +33,17 @@ pub fn applied_leaves()
 /// Where all tables of a version come in one edit, it makes that version of nothing.
 pub fn whole_edit()
     ensures { WholeEdit }
+{}
+
+/// Behind an edit that a manifest may hold stands what one may hold: tables as edits bring them, and numbers of at
+/// most 2^56.
+pub fn applied_may_come()
+    ensures { AppliedMayCome }
+{}
+
+/// So the edit in which all of a version comes is one that a manifest may hold, and is read back.
+pub fn whole_is_edit()
+    ensures { WholeIsEdit }
 {}
 
 /// The first table of a level, which a compaction takes, has the least number there.

@@ -26,13 +26,13 @@ pub struct Picked {
     pub bytes: u128,
 }
 
-fn count_on(tables: &[Added], level: u8) -> usize
+pub(crate) fn count_on(tables: &[Added], level: u8) -> usize
     ensures { result ≡ count_by (λ table. table.level == level) tables.now }
 {
     tables.iter().filter(|table| table.level == level).count()
 }
 
-fn bytes_on(tables: &[Added], level: u8) -> u128
+pub(crate) fn bytes_on(tables: &[Added], level: u8) -> u128
     ensures { result ≡ spec.bytes_of (spec.on_level level tables.now) }
 {
     let mut bytes: u128 = 0;

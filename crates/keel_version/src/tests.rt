@@ -1,6 +1,8 @@
-ghost use Rattle.std.specs.Prelude.{◌≤◌, IfOk};
-ghost use Rattle.keel_version.specs.Applying.{HasLevels};
+ghost use Rattle.std.specs.Prelude.{◌≤◌, ◌^◌, IfOk};
+ghost use Rattle.keel_base.specs.Name.{IsFileNumber};
+ghost use Rattle.keel_edit.specs.Spelling.{IsAdded, IsEdit};
 
+use crate::entries::is_at_most;
 use crate::{ApplyError, Busy, Version, laws};
 use keel_base::{Bytes, Options, OutOfMemory};
 use keel_edit::{Added, AddedList, Edit, Removed, RemovedList};
@@ -8,7 +10,8 @@ use std::alloc::Global;
 use std::test::Fail;
 
 fn plain(alloc: Global, next_file: u64) -> Edit
-    ensures { HasLevels result }
+    requires { IsFileNumber next_file }
+    ensures { IsEdit result }
 {
     Edit {
         min_log: 0,
@@ -20,37 +23,64 @@ fn plain(alloc: Global, next_file: u64) -> Edit
 }
 
 fn removing(alloc: Global, level: u8, number: u64) -> Result<Edit, OutOfMemory>
-    requires { level ≤ 3 }
-    ensures { IfOk result (λ edit. HasLevels edit) }
+    requires level { level ≤ 3 }
+    requires number { IsFileNumber number }
+    ensures { IfOk result (λ edit. IsEdit edit) }
 {
-    let mut edit = plain(alloc, 9);
-    edit.removed.push(Removed { level, number })?;
-    Ok(edit)
+    let mut removed = RemovedList::new(alloc);
+    removed.push(Removed { level, number })?;
+    Ok(Edit {
+        min_log: 0,
+        next_file: 9,
+        last_seq: 0,
+        removed,
+        added: AddedList::new(alloc),
+    })
 }
 
-/// A table with the first and the last of these keys of one byte.
-fn adding(
+/// A table with these two keys of one byte.
+fn table(
     alloc: Global,
     level: u8,
     number: u64,
     size: u64,
-    keys: &[u8],
-) -> Result<Edit, OutOfMemory>
-    requires { level ≤ 3 }
-    ensures { IfOk result (λ edit. HasLevels edit) }
+    keys: (u8, u8),
+) -> Result<Added, OutOfMemory>
+    requires level { level ≤ 3 }
+    requires number { IsFileNumber number }
+    requires size { size ≤ 2 ^ 56 }
+    ensures { IfOk result (λ table. IsAdded table) }
 {
-    let mut edit = plain(alloc, 9);
-    edit.added.push(Added {
+    let least = Bytes::from_slice(alloc, &[keys.0])?;
+    let greatest = Bytes::from_slice(alloc, &[keys.1])?;
+    if !is_at_most(least.as_slice(), greatest.as_slice()) {
+        return Err(OutOfMemory);
+    }
+    Ok(Added {
         level,
         number,
         size,
         rows: 1,
         first: 0,
         last: 0,
-        least: Bytes::from_slice(alloc, keys.get(..1).unwrap_or(b""))?,
-        greatest: Bytes::from_slice(alloc, keys.get(1..).unwrap_or(b""))?,
-    })?;
-    Ok(edit)
+        least,
+        greatest,
+    })
+}
+
+fn adding(alloc: Global, table: Added) -> Result<Edit, OutOfMemory>
+    requires { IsAdded table }
+    ensures { IfOk result (λ edit. IsEdit edit) }
+{
+    let mut added = AddedList::new(alloc);
+    added.push(table)?;
+    Ok(Edit {
+        min_log: 0,
+        next_file: 9,
+        last_seq: 0,
+        removed: RemovedList::new(alloc),
+        added,
+    })
 }
 
 fn with_table(
@@ -59,16 +89,19 @@ fn with_table(
     level: u8,
     number: u64,
     size: u64,
-    keys: &[u8],
+    keys: (u8, u8),
 ) -> Result<Version, ApplyError>
-    requires { level ≤ 3 }
+    requires level { level ≤ 3 }
+    requires number { IsFileNumber number }
+    requires size { size ≤ 2 ^ 56 }
 {
-    version.apply(alloc, &adding(alloc, level, number, size, keys)?)
+    let edit = adding(alloc, table(alloc, level, number, size, keys)?)?;
+    version.apply(alloc, &edit)
 }
 
-fn numbers(alloc: Global, tables: &AddedList) -> Result<Vec<u64>, OutOfMemory> {
+fn numbers(alloc: Global, tables: &[Added]) -> Result<Vec<u64>, OutOfMemory> {
     let mut numbers = Vec::new(alloc);
-    for table in tables.as_slice() {
+    for table in tables {
         numbers.push(table.number)?;
     }
     Ok(numbers)
@@ -81,32 +114,50 @@ fn an_edit_that_does_not_fit(rt: HostRuntime) -> Result<(), Fail> {
     let refused = nothing.apply(alloc, &removing(alloc, 0, 7)?).err();
     assert_eq!(rt; refused, Some(ApplyError::BadEdit { entry: 0 }));
     let version = nothing.apply(alloc, &plain(alloc, 3))?;
-    let refused = version.apply(alloc, &plain(alloc, 2)).err();
-    assert_eq!(rt; refused, Some(ApplyError::BadEdit { entry: 0 }));
     assert!(rt; version.min_log() == 0 && version.next_file() == 3 && version.last_seq() == 0);
+    let refused = version.into_applied(alloc, &plain(alloc, 2)).err();
+    assert_eq!(rt; refused, Some(ApplyError::BadEdit { entry: 0 }));
+    Ok(())
+}
 
-    let version = with_table(alloc, &version, 1, 7, 10, b"ac")?;
-    for (level, number, keys) in [(1, 8, b"bd"), (2, 7, b"xy")] {
-        let refused = with_table(alloc, &version, level, number, 10, keys).err();
-        assert_eq!(rt; refused, Some(ApplyError::BadEdit { entry: 0 }));
-    }
-    let version = with_table(alloc, &version, 1, 5, 10, b"de")?;
-    let version = with_table(alloc, &version, 0, 9, 10, b"bd")?;
-    let tables = numbers(alloc, &version.tables(alloc)?)?;
-    assert_eq!(rt; tables.as_slice(), [9, 5, 7].as_slice());
-    let version = version.apply(alloc, &removing(alloc, 1, 5)?)?;
-    let tables = numbers(alloc, &version.tables(alloc)?)?;
-    assert_eq!(rt; tables.as_slice(), [9, 7].as_slice());
+#[test]
+fn a_table_that_clashes(rt: HostRuntime) -> Result<(), Fail> {
+    let alloc = rt.alloc();
+    let version = with_table(alloc, &Version::empty(alloc), 1, 7, 10, (b'a', b'c'))?;
+    let refused = with_table(alloc, &version, 1, 8, 10, (b'b', b'd')).err();
+    assert_eq!(rt; refused, Some(ApplyError::BadEdit { entry: 0 }));
+    let refused = with_table(alloc, &version, 2, 7, 10, (b'x', b'y')).err();
+    assert_eq!(rt; refused, Some(ApplyError::BadEdit { entry: 0 }));
+    Ok(())
+}
+
+#[test]
+fn tables_stand_by_level_then_number(rt: HostRuntime) -> Result<(), Fail> {
+    let alloc = rt.alloc();
+    let version = with_table(alloc, &Version::empty(alloc), 1, 7, 10, (b'a', b'c'))?;
+    let version = with_table(alloc, &version, 1, 5, 20, (b'd', b'e'))?;
+    let version = with_table(alloc, &version, 0, 9, 40, (b'b', b'd'))?;
+    assert_eq!(rt;
+        numbers(alloc, version.as_slice())?.as_slice(),
+        [9, 5, 7].as_slice()
+    );
+    assert!(rt; version.count_on(1) == 2 && version.bytes_on(1) == 30);
+    let version = version.into_applied(alloc, &removing(alloc, 1, 5)?)?;
+    let tables = version.tables(alloc)?;
+    assert_eq!(rt;
+        numbers(alloc, tables.as_slice())?.as_slice(),
+        [9, 7].as_slice()
+    );
     Ok(())
 }
 
 /// Two tables on level 0, two on level 1 and one on level 2.
 fn levels(alloc: Global) -> Result<Version, ApplyError> {
-    let version = with_table(alloc, &Version::empty(alloc), 0, 3, 50, b"ac")?;
-    let version = with_table(alloc, &version, 0, 4, 50, b"eg")?;
-    let version = with_table(alloc, &version, 1, 5, 90, b"bd")?;
-    let version = with_table(alloc, &version, 1, 6, 20, b"mn")?;
-    with_table(alloc, &version, 2, 7, 10, b"mz")
+    let version = with_table(alloc, &Version::empty(alloc), 0, 3, 50, (b'a', b'c'))?;
+    let version = with_table(alloc, &version, 0, 4, 50, (b'e', b'g'))?;
+    let version = with_table(alloc, &version, 1, 5, 90, (b'b', b'd'))?;
+    let version = with_table(alloc, &version, 1, 6, 20, (b'm', b'n'))?;
+    with_table(alloc, &version, 2, 7, 10, (b'm', b'z'))
 }
 
 /// The inputs picked, or none, and their bytes.
@@ -122,7 +173,7 @@ fn picked(
     options.level_base = base;
     match version.pick(alloc, &options, busy)? {
         None => Ok((Vec::new(alloc), 0)),
-        Some(picked) => Ok((numbers(alloc, &picked.inputs)?, picked.bytes)),
+        Some(picked) => Ok((numbers(alloc, picked.inputs.as_slice())?, picked.bytes)),
     }
 }
 
@@ -157,6 +208,8 @@ fn laws_hold() {
     laws::edits_have_levels();
     laws::applied_leaves();
     laws::whole_edit();
+    laws::applied_may_come();
+    laws::whole_is_edit();
     laws::first_is_least();
     laws::near_is_meeting();
     laws::finds_greatest();

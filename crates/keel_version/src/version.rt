@@ -1,13 +1,15 @@
 // The version of a store: which tables it has.
 ghost use Rattle.std.specs.Prelude.{◌≡◌, ◌^◌, ◌<◌, length, IfOk};
-ghost use Rattle.keel_version.specs.Applying.{Gives, HasLevels, applied};
-ghost use Rattle.keel_version.specs.Picking.{Picks};
-ghost use Rattle.keel_version.specs.Tables.{IsSound, nothing};
+ghost use Rattle.keel_edit.specs.Spelling.{IsEdit};
+ghost use Rattle.keel_version.specs.Applying.{Gives, applied};
+ghost use Rattle.keel_version.specs.Picking.{Picks, on_level, bytes_of};
+ghost use Rattle.keel_version.specs.Tables.{IsSound, IsWithin, nothing};
+ghost use Rattle.keel_version.specs.Behind.{MayCome};
 
 use crate::ApplyError;
 use crate::copies::copies_of;
 use crate::entries::{with_added, without_removed};
-use crate::picking::{Busy, Picked, input_tables, ready_level};
+use crate::picking::{Busy, Picked, bytes_on, count_on, input_tables, ready_level};
 use keel_base::{Options, OutOfMemory};
 use keel_edit::{Added, AddedList, Edit};
 use std::alloc::Global;
@@ -23,7 +25,7 @@ pub struct Version {
 }
 
 impl Model for Version {
-    ghost use Rattle.keel_version.specs.Tables.{Contents, IsSound};
+    ghost use Rattle.keel_version.specs.Tables.{Contents, IsSound, IsWithin};
 
     ghost Value = { Contents };
 
@@ -34,7 +36,7 @@ impl Model for Version {
       last_seq = v.last_seq;
     } };
 
-    ghost invariant = { λ v. IsSound v.tables.items };
+    ghost invariant = { λ v. IsSound v.tables.items × IsWithin (record { tables = v.tables.items; min_log = v.min_log; next_file = v.next_file; last_seq = v.last_seq }) };
 }
 
 impl Version {
@@ -52,24 +54,42 @@ impl Version {
 
     /// The version behind an edit. Each table that goes has to be on its level; each that comes needs a number
     /// that no table has, and on the levels 1 to 3 a range that meets no other; and the edit's numbers are no
-    /// less than before. An edit that doesn't fit changes nothing, and neither does want of memory, as which more
-    /// than 2^32 - 1 tables count.
+    /// less than before. More than 2^32 - 1 tables count as want of memory. This version stays as it is, and so
+    /// its tables are copied.
     pub fn apply(&self, alloc: Global, edit: &Edit) -> Result<Version, ApplyError>
-        requires { HasLevels edit.now }
+        requires { IsEdit edit.now }
         ensures exact { Gives (λ after. after) result (applied edit.now self.now) }
         // The tables are in order, of different numbers, and apart on each of the levels 1 to 3.
         ensures sound { IfOk result (λ after. IsSound after.tables) }
+        ensures may_come { IfOk result MayCome }
+    {
+        let copy = Version {
+            tables: copies_of(alloc, self.tables.as_slice())?,
+            min_log: self.min_log,
+            next_file: self.next_file,
+            last_seq: self.last_seq,
+        };
+        copy.into_applied(alloc, edit)
+    }
+
+    /// The same of a version that isn't wanted any more: its tables are taken over, none is copied. A refusal
+    /// gives it up.
+    pub fn into_applied(self, alloc: Global, edit: &Edit) -> Result<Version, ApplyError>
+        requires { IsEdit edit.now }
+        ensures exact { Gives (λ after. after) result (applied edit.now self) }
+        ensures sound { IfOk result (λ after. IsSound after.tables) }
+        ensures may_come { IfOk result MayCome }
     {
         let removed = edit.removed.as_slice();
         let added = edit.added.as_slice();
         let going = small(removed.len())?;
         let coming = small(added.len())?;
-        let tables = without_removed(copies_of(alloc, self.tables.as_slice())?, removed)?;
-        let tables = with_added(alloc, tables, going, added)?;
-        if edit.min_log < self.min_log
+        let is_less = edit.min_log < self.min_log
             || edit.next_file < self.next_file
-            || edit.last_seq < self.last_seq
-        {
+            || edit.last_seq < self.last_seq;
+        let tables = without_removed(self.tables, removed)?;
+        let tables = with_added(alloc, tables, going, added)?;
+        if is_less {
             let entry = u64::from(going) + u64::from(coming);
             return Err(ApplyError::BadEdit { entry });
         }
@@ -83,12 +103,35 @@ impl Version {
     }
 
     /// The tables by level, then by number. They are in order, of different numbers, and apart on each of the
-    /// levels 1 to 3.
+    /// levels 1 to 3; and what stands here is within the bounds of a manifest.
+    pub fn as_slice(&self) -> &[Added]
+        ensures all { result.now ≡ self.now.tables }
+        ensures sound { IsSound self.now.tables }
+        ensures within { IsWithin self.now }
+    {
+        self.tables.as_slice()
+    }
+
+    /// A copy of the tables, in the same order.
     pub fn tables(&self, alloc: Global) -> Result<AddedList, OutOfMemory>
         ensures all { IfOk result (λ tables. tables ≡ self.now.tables) }
         ensures sound { IsSound self.now.tables }
     {
         Ok(AddedList::from_vec(copies_of(alloc, self.tables.as_slice())?))
+    }
+
+    /// How many tables a level has.
+    pub fn count_on(&self, level: u8) -> usize
+        ensures { result ≡ length (on_level level self.now.tables) }
+    {
+        count_on(self.tables.as_slice(), level)
+    }
+
+    /// The bytes of a level's tables.
+    pub fn bytes_on(&self, level: u8) -> u128
+        ensures { result ≡ bytes_of (on_level level self.now.tables) }
+    {
+        bytes_on(self.tables.as_slice(), level)
     }
 
     /// The least number of a log that holds what is in no table, as the last edit said.

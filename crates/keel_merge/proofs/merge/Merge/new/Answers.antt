@@ -1,18 +1,16 @@
-use Rattle.std.proofs.Common.{◌≡◌, ap, sym, subst, List, map, reverse, ◌∙◌}
-use Rattle.keel_base.specs.declared.row.Row.{Row}
-use Rattle.keel_merge.specs.Merging.{rows_of, IsMergeOf}
-use Rattle.keel_merge.specs.Taking.{coming, merged, AreTurned}
-use Rattle.keel_merge.proofs.Placing.{merged_is}
-use Rattle.keel_merge.proofs.Turning.{turned_inputs, coming_turned}
+use Rattle.std.proofs.Common.{◌≡◌, ℕ, List, None, replicate, ap, ◌∙◌, arith}
+use Rattle.keel_merge.specs.Feeding.{Waiting, MergeState, wanting}
+use Rattle.keel_merge.proofs.Refilling.{unfed_may_come, unfed_merges}
 use Rattle.keel_merge.proofs.merge.Merge.new.Goals as goal
 
-pub invariant_of-result : goal.invariant_of-result
-invariant_of-result c =
-    subst AreTurned (sym (c.turn_all.ensures ∙ ap (map reverse) c.into_vec-lists.ensures)) (turned_inputs c.args.inputs c.requires)
+pub returns-clause-unfed : goal.returns-clause-unfed
+returns-clause-unfed c =
+    let same : c.lists._place ≡ c.args.count = omega arith in
+    ap (λ (l : List Waiting). let s : MergeState = record { lists = l; held = None; last_level = c.args.last_level } in s)
+    (c.lists.invariant ∙ ap (λ (n : ℕ). replicate n wanting) same)
 
-pub returns : goal.returns
-returns c =
-    let all : coming c.turn_all.new.lists.items ≡ rows_of c.args.inputs =
-    ap coming (c.turn_all.ensures ∙ ap (map reverse) c.into_vec-lists.ensures) ∙ coming_turned c.args.inputs in
-    subst (λ (r : List Row). IsMergeOf (rows_of c.args.inputs) c.args.last_level (merged c.args.last_level r)) (sym all)
-    (merged_is c.args.last_level (rows_of c.args.inputs))
+pub returns-clause-may_come : goal.returns-clause-may_come
+returns-clause-may_come c = unfed_may_come c.args.count c.args.last_level _ (returns-clause-unfed c)
+
+pub returns-clause-merges : goal.returns-clause-merges
+returns-clause-merges c = unfed_merges c.args.count c.args.last_level _ (returns-clause-unfed c)
