@@ -1,6 +1,6 @@
 -- The ends of a run over lines as they are given.
 use Rattle.std.proofs.Common.{◌≡◌, ℕ, ◌+◌, ◌≤◌, false, Option, None, List, [], ◌∷◌, ◌++◌, length, ap, sym, subst, arith}
-use Rattle.std.proofs.KnownBytes.{Consumes-nil, prepend_known-nil}
+use Rattle.std.proofs.KnownBytes.{prepend_known-nil}
 use Rattle.std.specs.Io.KnownBytes.{IsAtEnd}
 use Rattle.keel_base.specs.Counts.{Rose}
 use Rattle.keel_lines.specs.declared.line.LineEnd.{LineEnd}
@@ -24,10 +24,6 @@ pub nothing_given : (told : Option (List ℕ)) (view : LinesView) → view.pendi
 nothing_given told view pending passed ended remaining =
     let whole : left view ≡ told = rw (pending, prepend_known-nil) remaining in
     subst (λ (o : Option (List ℕ)). Delivered o view []) whole (begins view passed ended)
-
--- nothing was taken
-pub takes_none : (told : Option (List ℕ)) → TakesFew told told
-takes_none told = record { taken = []; consumed = Consumes-nil told; few = omega arith }
 
 -- what a reader that gave these lines has taken
 pub takes_few : (told left_behind : Option (List ℕ)) (view : LinesView) (lines : List (List ℕ)) → Delivered told view lines → HoldsFew view → left_behind ≡ view.remaining
