@@ -15,6 +15,10 @@
 //! over a folder of the host, `keel_dirdisk`.
 #![tactic(auto)]
 
+ghost use Rattle.keel_machine.specs.States.{Known};
+ghost use Rattle.keel_simdisk.specs.Calls.{seen_of};
+ghost use Rattle.keel_cli.specs.Sessions.{MayBegin};
+
 mod answer;
 mod draining;
 mod driver;
@@ -32,6 +36,7 @@ use keel_disk::Device;
 use keel_simdisk::SimDisk;
 pub use lines::{LineDone, LineStop, LinesDone, StopPlace, carry_lines};
 pub use place::{Carried, Place, carry_on_store, finish};
+use std::alloc::Global;
 use std::process::ExitCode;
 use std::{env, io};
 pub use top::{End, Ended, run_words};
@@ -61,6 +66,13 @@ fn run_over<V: Device>(rt: &HostRuntime, words: &Vec<String>, device: V) -> u8 {
     ended.status
 }
 
+// A new device in memory. It tells its state and is at rest, so that a run may count on it.
+fn device_in_memory(alloc: Global) -> SimDisk
+    ensures { MayBegin Known (seen_of result).told }
+{
+    SimDisk::new(alloc, CAPACITY)
+}
+
 // The path of the folder that the words ask for.
 fn folder_of(words: &Vec<String>) -> Option<&String> {
     match words.as_slice() {
@@ -84,7 +96,7 @@ fn main(rt: HostRuntime) -> ExitCode {
                 6
             }
         },
-        None => run_over(&rt, &words, SimDisk::new(alloc, CAPACITY)),
+        None => run_over(&rt, &words, device_in_memory(alloc)),
     };
     ExitCode::from(status)
 }
