@@ -1,8 +1,8 @@
 -- What a builder holds of the rows that were added.
-use Rattle.std.specs.Prelude.{◌≡◌, ℕ, ◌+◌, ◌<◌, List, [], ◌++◌, length, Option, unwrap_or}
+use Rattle.std.specs.Prelude.{◌≡◌, ℕ, ◌+◌, ◌<◌, ◌==◌, List, [], ◌++◌, length, Option, Some, None, unwrap_or, if◌then◌else◌}
 use Rattle.std.specs.List.{AllByRecursion}
 use Rattle.keel_base.specs.declared.row.Row.{Row}
-use Rattle.keel_table.specs.Spelling.{IsRow, Ascend, last_key, rows_bytes, IsClosed, rows_of, blocks_bytes, index_bytes, entry_bytes}
+use Rattle.keel_table.specs.Spelling.{IsRow, Ascend, last_key, rows_bytes, IsClosed, rows_of, checked, blocks_bytes, index_bytes, entry_bytes}
 use Rattle.keel_table.specs.declared.index.Footer.{Footer}
 use Rattle.keel_table.specs.declared.builder.Builder.{Builder}
 use Rattle.keel_table.specs.declared.builder.Pieces.{Pieces}
@@ -44,6 +44,14 @@ footer_behind index place blocks b = record { index = place; size = length index
 -- what a builder takes next has a key over this one; at the beginning it is the empty key
 abbrev pub key_before : Builder → List ℕ
 key_before b = b.last_key
+
+-- the bytes of the rows that are in no piece yet
+abbrev pub left_over : Builder → List ℕ
+left_over b = b.open_rows
+
+-- the last block, where rows are left
+abbrev pub last_block : List ℕ → Option (List ℕ)
+last_block rows = if length rows == 0 then None else Some (checked rows)
 
 -- the bytes of a piece, where there is one
 abbrev pub piece_bytes : Option (List ℕ) → List ℕ

@@ -82,7 +82,7 @@ struct Closing {
 }
 
 impl Builder {
-    ghost use Rattle.keel_table.specs.Building.{IsBuilding, closed_by, footer_behind, key_before, piece_bytes, pieces_bytes};
+    ghost use Rattle.keel_table.specs.Building.{IsBuilding, closed_by, footer_behind, key_before, last_block, left_over, piece_bytes, pieces_bytes};
     ghost use Rattle.keel_table.specs.Spelling.{IsTableOf};
 
     /// A table of rows whose sequence numbers are from `first` to `last`.
@@ -219,8 +219,9 @@ impl Builder {
 
     /// The last block, where rows are left, and the end of the table.
     fn pieces(&self, alloc: Global) -> Result<Pieces, OutOfMemory>
-        ensures { IfOk result (λ pieces. (first last : ℕ) (rows : List ARow) (given : List ℕ) → IsBuilding first last rows given self.now
+        ensures table { IfOk result (λ pieces. (first last : ℕ) (rows : List ARow) (given : List ℕ) → IsBuilding first last rows given self.now
             → IsTableOf first last rows (given ++ pieces_bytes pieces)) }
+        ensures parts { IfOk result (λ pieces. pieces.block ≡ last_block (left_over self.now)) }
     {
         if self.open_rows.len() == 0 {
             let end = self.end(alloc, self.index.as_slice(), self.place, self.blocks)?;
@@ -245,6 +246,7 @@ impl Builder {
     pub fn finish(self, alloc: Global) -> Result<Pieces, FinishRefused>
         ensures ok { IfOk result (λ pieces. (first last : ℕ) (rows : List ARow) (given : List ℕ) → IsBuilding first last rows given self
             → IsTableOf first last rows (given ++ pieces_bytes pieces)) }
+        ensures parts { IfOk result (λ pieces. pieces.block ≡ last_block (left_over self)) }
         ensures err { IfErr result (λ refused. refused.builder ≡ self) }
     {
         match self.pieces(alloc) {
