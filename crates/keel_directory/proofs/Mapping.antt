@@ -14,7 +14,7 @@ use Rattle.keel_base.specs.declared.row.Kind.TheVariants as kinds
 use Rattle.keel_base.specs.Keys.{key_cmp, key_eq}
 use Rattle.keel_base.specs.Points.{Values}
 use Rattle.keel_base.specs.Rows.{newer, newest, value_left, kept}
-use Rattle.keel_table.proofs.KeyOrder.{eq_same, eq_itself}
+use Rattle.keel_base.proofs.KeyOrder.{eq_same, eq_itself}
 use Rattle.keel_directory.specs.Answers.{PairList, Sets, ArePairsOf, is_over}
 
 -- ---- keys

@@ -10,7 +10,7 @@ use Rattle.std.proofs.lemmas.Cmp.{nat_list_cmp_total}
 use Rattle.std.proofs.lemmas.Map.Lookups.{exact_bytes}
 use Rattle.keel_base.specs.Keys.{key_cmp, key_lt}
 use Rattle.keel_name.proofs.Listings.{in_order}
-use Rattle.keel_table.proofs.KeyOrder.{not_lt}
+use Rattle.keel_base.proofs.KeyOrder.{lt_then_not_lt}
 use Rattle.keel_base.specs.declared.file_name.FileName.{FileName}
 use Rattle.keel_base.specs.declared.file_name.FileName.TheVariants.{Log, Table, Trash, Manifest, Current, Temp}
 use Rattle.keel_base.specs.Name.{printed, listed_before}
@@ -184,7 +184,7 @@ either false h = refl
 not_below : (first second third : List ℕ) → key_lt first second ≡ false → key_lt second third ≡ false → key_lt first third ≡ false
 not_below first second third a b =
     either (key_lt first third) (λ below.
-    let back : key_lt third second ≡ false = not_lt first third second below a in
+    let back : key_lt third second ≡ false = lt_then_not_lt first third second below a in
     let same : third ≡ second = exact_bytes third second (greater (key_cmp third second) back (ap is_lt (sym (nat_list_cmp_total.antisymm second third)) ∙ b)) in
     never_both (key_lt first second) a (subst (λ (key : List ℕ). key_lt first key ≡ true) same below))
 

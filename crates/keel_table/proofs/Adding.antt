@@ -8,7 +8,8 @@ use Rattle.keel_base.specs.Keys.{key_lt}
 use Rattle.keel_table.specs.declared.index.IndexEntry.{IndexEntry}
 use Rattle.keel_table.specs.declared.index.Footer.{Footer}
 use Rattle.keel_table.specs.declared.builder.Builder.{Builder}
-use Rattle.keel_table.specs.Spelling.{IsRow, Ascend, last_key, row_bytes, rows_bytes, IsBlock, IsClosed, AreBlocks, rows_of, checked, block_bytes, blocks_bytes, entry_bytes, entry_of, entries_from, index_bytes, footer_bytes, footer_of, FooterFits, IsTableOf}
+use Rattle.keel_base.specs.Rows.{IsRow}
+use Rattle.keel_table.specs.Spelling.{Ascend, last_key, row_bytes, rows_bytes, IsBlock, IsClosed, AreBlocks, rows_of, checked, block_bytes, blocks_bytes, entry_bytes, entry_of, entries_from, index_bytes, footer_bytes, footer_of, FooterFits, IsTableOf}
 use Rattle.keel_table.specs.Building.{IsBuilding, closed_by, footer_behind}
 use Rattle.keel_table.proofs.Lengths.{length-row, length-checked}
 
@@ -115,6 +116,15 @@ closes first last rows given b c row spelled piece key number h is over spells k
       blocks_is = omega (arith, h.blocks_is, length-more h.closed block);
       rows_is = omega (arith, numbered, h.rows_is, length-more rows row);
     })
+
+-- what a closed block adds to the bytes and to the blocks
+pub closed_bytes : (bytes key piece : List ℕ) (number : ℕ) (b c : Builder) → piece ≡ checked bytes → c ≡ closed_by bytes key number b → c.place ≡ b.place + length piece
+closed_bytes bytes key piece number b c pieced e =
+    let place : c.place ≡ b.place + (length bytes + 4) = ap (λ (x : Builder). x.place) e in
+    omega (arith, place, ap length pieced, length-checked bytes)
+
+pub closed_blocks : (bytes key : List ℕ) (number : ℕ) (b c : Builder) → c ≡ closed_by bytes key number b → c.blocks ≡ b.blocks + 1
+closed_blocks bytes key number b c e = ap (λ (x : Builder). x.blocks) e
 
 -- ---- the end
 

@@ -2,8 +2,9 @@ pub mod Lengths
 pub mod Adding
 pub mod Loops
 pub mod Composing
-pub mod KeyOrder
 pub mod Searching
 pub mod Reread
 pub mod Opens
 pub mod Spelled
+pub mod Joined
+pub mod Sizes

@@ -13,11 +13,12 @@ use Rattle.keel_base.specs.declared.row.Kind.TheVariants as kinds
 use Rattle.keel_base.specs.Keys.{key_cmp, key_lt, key_eq}
 use Rattle.keel_table.specs.declared.index.IndexEntry.{IndexEntry}
 use Rattle.keel_table.specs.declared.index.Footer.{Footer}
-use Rattle.keel_table.specs.Spelling.{most_value, row_bytes, rows_bytes, IsRow, Ascend, last_key, IsBlock, AreBlocks, rows_of, checked, block_bytes, blocks_bytes, entry_bytes, IsEntry, entry_of, entries_from, index_bytes, footer_body, footer_bytes, footer_of, table_bytes, FooterFits}
+use Rattle.keel_base.specs.Rows.{most_value, IsRow}
+use Rattle.keel_table.specs.Spelling.{row_bytes, rows_bytes, Ascend, last_key, IsBlock, AreBlocks, rows_of, checked, block_bytes, blocks_bytes, entry_bytes, IsEntry, entry_of, entries_from, index_bytes, footer_body, footer_bytes, footer_of, table_bytes, FooterFits}
 use Rattle.keel_table.specs.Fields.{is_over, next_entry_at, entries_at, all_rows_at, footer_at}
 use Rattle.keel_table.specs.Opening.{checked_at, footer_of_size, footer_found, entries_found, opened_with, opened, block_found, Covering, covering, row_of, row_found, Damage}
 use Rattle.keel_table.specs.Laws.{AreWhole, GetGives, OpensAs, TablesOpen}
-use Rattle.keel_table.proofs.KeyOrder.{eq_same, lt_then_lt, not_lt}
+use Rattle.keel_base.proofs.KeyOrder.{eq_same, lt_then_lt, lt_then_not_lt}
 use Rattle.keel_table.proofs.Lengths.{length-row, length-checked}
 use Rattle.keel_table.proofs.Adding.{last_key-more, flat-one}
 use Rattle.keel_table.proofs.Reread.{checked_again, over_last, all_again, entry_field, footer_again, length-footer}
@@ -29,13 +30,13 @@ ascend_parts before [] ys h = (tt, h)
 ascend_parts before (x ∷ xs) ys h =
     let rest = ascend_parts x.key xs ys h.1 in ((h.0, rest.0), rest.1)
 
-all_parts : {A : Type 0} (P : A → Type 0) (xs ys : List A) → AllByRecursion P (xs ++ ys) → AllByRecursion P xs × AllByRecursion P ys
+pub all_parts : {A : Type 0} (P : A → Type 0) (xs ys : List A) → AllByRecursion P (xs ++ ys) → AllByRecursion P xs × AllByRecursion P ys
 all_parts P [] ys h = (tt, h)
 all_parts P (x ∷ xs) ys h =
     let rest = all_parts P xs ys h.1 in ((h.0, rest.0), rest.1)
 
 -- each of the blocks has a row
-are_blocks : (blocks : List (List Row)) → AreBlocks blocks → AllByRecursion IsBlock blocks
+pub are_blocks : (blocks : List (List Row)) → AreBlocks blocks → AllByRecursion IsBlock blocks
 are_blocks [] h = tt
 are_blocks (block ∷ []) h = (h, tt)
 are_blocks (block ∷ next ∷ blocks) h = (h.0.is_block, are_blocks (next ∷ blocks) h.1)
@@ -53,11 +54,11 @@ over_block : (before : List ℕ) (block : List Row) → IsBlock block → Ascend
 over_block before [] is rise = absurd (no_rows is.front is.end is.parts)
 over_block before (row ∷ rows) is rise = over_last before row rows rise
 
-most : (kind : Kind) → most_value kind ≤ 65536
+pub most : (kind : Kind) → most_value kind ≤ 65536
 most kinds.Put = omega arith
 most kinds.Del = omega arith
 
-end_row : (block : List Row) (is : IsBlock block) → AllByRecursion IsRow block → IsRow is.end
+pub end_row : (block : List Row) (is : IsBlock block) → AllByRecursion IsRow block → IsRow is.end
 end_row block is each = (all_parts IsRow is.front (is.end ∷ []) (subst (λ (rows : List Row). AllByRecursion IsRow rows) is.parts each)).1.0
 
 block_short : (block : List Row) (is : IsBlock block) → AllByRecursion IsRow block → length (rows_bytes block) < 2 ^ 32
@@ -153,7 +154,7 @@ not_true false h = refl
 true_is_false : (b : Bool) → b ≡ true → b ≡ false → ⊥
 true_is_false b e f = cc
 
-below_last : (key : List ℕ) (row : Row) (rows : List Row) → Ascend row.key rows → key_lt (last_key row.key rows) key ≡ true → key_lt row.key key ≡ true
+pub below_last : (key : List ℕ) (row : Row) (rows : List Row) → Ascend row.key rows → key_lt (last_key row.key rows) key ≡ true → key_lt row.key key ≡ true
 below_last key row [] rise lt = lt
 below_last key row (next ∷ rows) rise lt = lt_then_lt row.key (last_key row.key (next ∷ rows)) key (over_last row.key next rows rise) lt
 
@@ -169,7 +170,7 @@ none_above : (before : List ℕ) (rows : List Row) (key : List ℕ) → Ascend b
 none_above before [] key rise over = refl
 none_above before (row ∷ rows) key rise over =
     let other : key_eq row.key key ≡ false = not_true (key_eq row.key key) (λ e. true_is_false (key_lt before key) (subst (λ (k : List ℕ). key_lt before k ≡ true) (eq_same row.key key e) rise.0) over) in
-    skip (λ (r : Row). key_eq r.key key) row rows other ∙ none_above row.key rows key rise.1 (not_lt before row.key key rise.0 over)
+    skip (λ (r : Row). key_eq r.key key) row rows other ∙ none_above row.key rows key rise.1 (lt_then_not_lt before row.key key rise.0 over)
 
 some_none : (row : Row) → (let some : Option Row = Some row in some) ≡ (let none : Option Row = None in none) → ⊥
 some_none row e = cc

@@ -15,11 +15,12 @@ use Rattle.keel_fields.specs.Reading.{Read, number_at, bounded_at, bytes_at, lin
 use Rattle.keel_fields.proofs.Fields.{IsBytes, IsBytes-rest, Takes, IsField, Between, wide32, wide64, number_field, bounded_field, bytes_takes, bytes_again, sized_field, both_field, linked_field, made_field, refit_field}
 use Rattle.keel_table.specs.declared.index.IndexEntry.{IndexEntry}
 use Rattle.keel_table.specs.declared.index.Footer.{Footer}
-use Rattle.keel_table.specs.Spelling.{number, count, most_value, kind_byte, row_bytes, rows_bytes, IsRow, Ascend, last_key, IsBlock, checked, entry_bytes, IsEntry, magic, footer_body, FooterFits}
+use Rattle.keel_base.specs.Rows.{most_value, IsRow}
+use Rattle.keel_table.specs.Spelling.{number, count, kind_byte, row_bytes, rows_bytes, Ascend, last_key, IsBlock, checked, entry_bytes, IsEntry, magic, footer_body, FooterFits}
 use Rattle.keel_table.specs.Fields.{kind_at, Header, header_at, make_row, row_at, may_stand, next_row_at, rows_at, all_rows_at, make_entry, entry_at, FooterParts, make_footer, footer_at}
 use Rattle.keel_table.specs.Opening.{compared, tested, part_at, checked_at}
 use Rattle.keel_table.proofs.Lengths.{length-count, length-row, length-checked}
-use Rattle.keel_table.proofs.KeyOrder.{less, cmp_itself, lt_then_lt}
+use Rattle.keel_base.proofs.KeyOrder.{less, cmp_itself, lt_then_lt}
 
 -- ---- checks
 

@@ -1,6 +1,6 @@
 -- The entry that covers a key, found by halving.
 use Rattle.std.proofs.Common.{◌≡◌, ℕ, zero, suc, ◌+◌, ◌-◌, ◌<◌, ◌≤◌, Bool, true, false, List, [], ◌∷◌, length, get_or, take, Option, Some, None, Ok, Err, Result, refl, sym, ap, subst, ◌∙◌, arith, inl, inr}
-use Rattle.std.specs.Prelude.{◌&&◌, ◌==◌, slice_get}
+use Rattle.std.specs.Prelude.{◌&&◌, ◌==◌, slice_get, IfOk}
 use Rattle.std.proofs.lemmas.Bool.{cases_lt}
 use Rattle.keel_base.specs.Keys.{key_lt}
 use Rattle.keel_fields.specs.Reading.{◌>>=◌}
@@ -11,10 +11,11 @@ use Rattle.keel_base.specs.declared.row.Row.{Row}
 use Rattle.keel_disk.specs.Told.{Told}
 use Rattle.keel_table.specs.declared.fault.TableFault.{TableFault}
 use Rattle.keel_table.specs.Answers.{Answers, BlockAnswers, GetAnswers}
+use Rattle.keel_table.specs.Blocks.{FitEntry, FitCovering}
 use Rattle.keel_table.specs.Opening.{Covering, last_key_of, nth_entry, covering, block_found, row_of, row_found}
 use Rattle.keel_table.proofs.Composing.{found_behind, failed_behind}
 use Rattle.keel_table.proofs.Loops.{taken_entry, both_hold}
-use Rattle.keel_table.proofs.KeyOrder.{lt_then_lt, not_lt}
+use Rattle.keel_base.proofs.KeyOrder.{lt_then_lt, lt_then_not_lt}
 
 -- ---- entries in order
 
@@ -89,7 +90,7 @@ below_through index es key middle e order at below k x lt h =
 pub not_below_from : (index : ℕ) (es : List IndexEntry) (key : List ℕ) (middle : ℕ) (e : IndexEntry) → in_order index 0 None es ≡ true → found e ≡ slice_get es middle → key_lt e.last key ≡ false → AreNotBelow es key middle
 not_below_from index es key middle e order at over k x le h =
     elim (cases_lt middle k) [
-      | inl behind ↦ not_lt e.last x.last key (rising index 0 None es middle k e x order behind at h) over
+      | inl behind ↦ lt_then_not_lt e.last x.last key (rising index 0 None es middle k e x order behind at h) over
       | inr there ↦
           let same : k ≡ middle = omega (arith, there, le) in
           subst (λ (y : IndexEntry). key_lt y.last key ≡ false) (entry_is e x (at ∙ ap (slice_get es) (sym same) ∙ sym h)) over
@@ -149,6 +150,12 @@ pub block_answered : (es : List IndexEntry) (i : ℕ) (before : List ℕ) (e d :
 block_answered es i before e d number told result lt is key h =
     let nth : nth_entry [] es i ≡ Some (pair before e) = nth_is [] es i e (at_index es i e d lt is) ∙ ap (λ (k : List ℕ). Some (pair k e)) (sym key) in
     subst (λ (c : Option Covering). BlockAnswers c number told result) (sym nth) h
+
+pub block_fits : (es : List IndexEntry) (i : ℕ) (before : List ℕ) (e d : IndexEntry) (result : Result (List Row) TableFault) → i < length es → e ≡ get_or es i d
+    → before ≡ last_key_of [] (take i es) → IfOk result (FitEntry before e) → IfOk result (FitCovering (nth_entry [] es i))
+block_fits es i before e d result lt is key h =
+    let nth : nth_entry [] es i ≡ Some (pair before e) = nth_is [] es i e (at_index es i e d lt is) ∙ ap (λ (k : List ℕ). Some (pair k e)) (sym key) in
+    subst (λ (c : Option Covering). IfOk result (FitCovering c)) (sym nth) h
 
 pub none_answered : (es : List IndexEntry) (i : ℕ) (key : List ℕ) (number : ℕ) (told : Option Told) → AreBelow es key i → length es ≤ i → GetAnswers (covering [] es key) key number told (Ok None)
 none_answered es i key number told below le = subst (λ (c : Option Covering). GetAnswers c key number told (Ok None)) (sym (covers_none [] es key i below le)) refl

@@ -17,11 +17,13 @@ use Rattle.keel_fields.specs.Reading.{Read, ◌>>=◌}
 use Rattle.keel_fields.proofs.Fields.{IsBytes, bind_ok, check_ok, ok_is, Takes, wide32}
 use Rattle.keel_table.specs.declared.index.IndexEntry.{IndexEntry}
 use Rattle.keel_table.specs.declared.index.Footer.{Footer}
-use Rattle.keel_table.specs.Spelling.{number, count, row_bytes, rows_bytes, IsRow, Ascend, last_key, checked, entry_bytes, IsEntry, magic, footer_body}
+use Rattle.keel_base.specs.Rows.{IsRow}
+use Rattle.keel_table.specs.Spelling.{number, count, row_bytes, rows_bytes, Ascend, last_key, checked, entry_bytes, IsEntry, magic, footer_body}
 use Rattle.keel_table.specs.Fields.{row_at, may_stand, has_place, placed_row, next_row_at, rows_at, all_rows_at, entry_at, entry_fits, fitting_entry, next_entry_at, entries_at, footer_at, in_order}
 use Rattle.keel_table.specs.Opening.{Damage, bad_check, bad_shape, and_then, needs, ending_at, compared, tested, part_at, checked_at, footer_of_size, footer_found, entries_in, entries_found, rows_in, block_found}
+use Rattle.keel_table.specs.Blocks.{FitEntry}
 use Rattle.keel_table.specs.Laws.{IsBlockAt, IsIndexAt, IsFooterAt, BlocksAreSpelled, IndexesAreSpelled, FootersAreSpelled}
-use Rattle.keel_table.proofs.KeyOrder.{eq_same}
+use Rattle.keel_base.proofs.KeyOrder.{eq_same}
 use Rattle.keel_table.proofs.Lengths.{length-row}
 use Rattle.keel_table.proofs.Loops.{taken_entry}
 use Rattle.keel_table.proofs.Reread.{tested_again, row_field, rows_again, rows_long, entry_field, footer_parts, seven, footer_again, length-footer}
@@ -181,6 +183,12 @@ all_rows_again : (before last : List ℕ) (rows : List Row) → 0 < length rows 
 all_rows_again before last [] some each rise ends = absurd (omega (arith, some))
 all_rows_again before last (row ∷ rows) some each rise ends =
     rows_again (length (rows_bytes (row ∷ rows))) before last row rows (omega (arith, rows_long rows, length-append (row_bytes row) (rows_bytes rows), length-row row)) each rise (sym ends)
+
+-- what is read from bytes fits the entry that it was read for, whichever bytes they are
+pub rows_fit : (before : List ℕ) (e : IndexEntry) (body : List ℕ) (rows : List Row) → IsBytes body → all_rows_at before e.last body ≡ Ok rows → FitEntry before e rows
+rows_fit before e body rows fits read =
+    let t = rows_take (length body) before e.last body rows fits read in
+    record { some = t.some; each = t.each; rise = t.rise; last = t.ends }
 
 -- ---- blocks
 

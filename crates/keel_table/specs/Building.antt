@@ -2,7 +2,8 @@
 use Rattle.std.specs.Prelude.{◌≡◌, ℕ, ◌+◌, ◌<◌, ◌==◌, List, [], ◌++◌, length, Option, Some, None, unwrap_or, if◌then◌else◌}
 use Rattle.std.specs.List.{AllByRecursion}
 use Rattle.keel_base.specs.declared.row.Row.{Row}
-use Rattle.keel_table.specs.Spelling.{IsRow, Ascend, last_key, rows_bytes, IsClosed, rows_of, checked, blocks_bytes, index_bytes, entry_bytes}
+use Rattle.keel_base.specs.Rows.{IsRow}
+use Rattle.keel_table.specs.Spelling.{Ascend, last_key, rows_bytes, IsClosed, rows_of, checked, blocks_bytes, index_bytes, entry_bytes}
 use Rattle.keel_table.specs.declared.index.Footer.{Footer}
 use Rattle.keel_table.specs.declared.builder.Builder.{Builder}
 use Rattle.keel_table.specs.declared.builder.Pieces.{Pieces}
@@ -44,6 +45,19 @@ footer_behind index place blocks b = record { index = place; size = length index
 -- what a builder takes next has a key over this one; at the beginning it is the empty key
 abbrev pub key_before : Builder → List ℕ
 key_before b = b.last_key
+
+-- how many bytes the pieces that were given have, checks included
+abbrev pub bytes_given : Builder → ℕ
+bytes_given b = b.place
+
+-- how many pieces were given, a block each
+abbrev pub blocks_given : Builder → ℕ
+blocks_given b = b.blocks
+
+-- how many pieces there are
+abbrev pub pieces_of : Option (List ℕ) → ℕ
+pieces_of None = 0
+pieces_of (Some piece) = 1
 
 -- the bytes of the rows that are in no piece yet
 abbrev pub left_over : Builder → List ℕ

@@ -10,7 +10,7 @@ use Rattle.keel_base.specs.Keys.{key_cmp, key_lt}
 use Rattle.keel_fields.specs.Reading.{Read, ◌>>=◌, number_at, bounded_at, bytes_at, sized_at, linked, both, made}
 use Rattle.keel_table.specs.declared.index.IndexEntry.{IndexEntry}
 use Rattle.keel_table.specs.declared.index.Footer.{Footer}
-use Rattle.keel_table.specs.Spelling.{most_value}
+use Rattle.keel_base.specs.Rows.{most_value}
 
 -- ---- rows
 

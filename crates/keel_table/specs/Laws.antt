@@ -5,7 +5,8 @@ use Rattle.keel_base.specs.declared.row.Row.{Row}
 use Rattle.keel_disk.specs.Image.{AreBytes}
 use Rattle.keel_table.specs.declared.index.IndexEntry.{IndexEntry}
 use Rattle.keel_table.specs.declared.index.Footer.{Footer}
-use Rattle.keel_table.specs.Spelling.{rows_bytes, IsRow, Ascend, last_key, rows_of, checked, block_bytes, entry_bytes, IsEntry, entries_from, footer_bytes, footer_of, FooterFits, IsTableOf}
+use Rattle.keel_base.specs.Rows.{IsRow}
+use Rattle.keel_table.specs.Spelling.{rows_bytes, Ascend, last_key, rows_of, checked, block_bytes, entry_bytes, IsEntry, entries_from, footer_bytes, footer_of, FooterFits, IsTableOf}
 use Rattle.keel_table.specs.Fields.{in_order}
 use Rattle.keel_table.specs.Opening.{part_at, footer_found, entries_found, opened_with, opened, block_found, Covering, covering, row_of, row_found}
 

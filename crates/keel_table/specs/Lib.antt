@@ -2,6 +2,8 @@ pub mod Spelling
 pub mod Building
 pub mod Fields
 pub mod Opening
+pub mod Blocks
 pub mod Answers
 pub mod Tables
 pub mod Laws
+pub mod Sizes

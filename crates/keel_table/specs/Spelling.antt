@@ -6,6 +6,7 @@ use Rattle.keel_base.specs.declared.row.Row.{Row}
 use Rattle.keel_base.specs.declared.row.Kind.{Kind}
 use Rattle.keel_base.specs.declared.row.Kind.TheVariants as kinds
 use Rattle.keel_base.specs.Keys.{key_lt}
+use Rattle.keel_base.specs.Rows.{IsRow}
 use Rattle.keel_frag.specs.Checksum.{crc32c, mask}
 use Rattle.keel_table.specs.declared.index.IndexEntry.{IndexEntry}
 use Rattle.keel_table.specs.declared.index.Footer.{Footer}
@@ -20,11 +21,6 @@ count n = to_le_bytes w32 n
 
 -- ---- rows
 
--- how many bytes the value of a row of that kind may have
-abbrev pub most_value : Kind → ℕ
-most_value kinds.Put = 65536
-most_value kinds.Del = 0
-
 -- the byte of a kind
 abbrev pub kind_byte : Kind → ℕ
 kind_byte kinds.Put = 1
@@ -37,13 +33,6 @@ row_bytes r = number r.seq ++ (kind_byte r.kind ∷ (count (length r.key) ++ (co
 -- rows one behind the other
 abbrev pub rows_bytes : List Row → List ℕ
 rows_bytes rows = flat_map row_bytes rows
-
--- a key and a value within their limits; a delete has an empty value
-pub record IsRow (r : Row) : Type 0 where
-  pub seq : r.seq < 2 ^ 64
-  pub least : 1 ≤ length r.key
-  pub most : length r.key ≤ 1024
-  pub value : length r.value ≤ most_value r.kind
 
 -- the keys rise, from one that is over the key before
 abbrev pub Ascend : List ℕ → List Row → Type 0

@@ -1,7 +1,8 @@
 // Reading a block.
-ghost use Rattle.std.specs.Prelude.{◌≡◌};
+ghost use Rattle.std.specs.Prelude.{◌≡◌, IfOk};
 ghost use Rattle.keel_disk.specs.Counts.{FaultCounted};
 ghost use Rattle.keel_table.specs.Answers.{Answers, ChecksDiffer, Finds, fault_in};
+ghost use Rattle.keel_table.specs.Blocks.{FitEntry};
 ghost use Rattle.keel_table.specs.Opening as spec;
 
 use crate::TableFault;
@@ -21,6 +22,7 @@ pub(crate) fn rows_in(
     body: &[u8],
 ) -> Result<Rows, TableFault>
     ensures found { Finds (λ rows. rows) result (spec.rows_in before.now entry.now body.now) }
+    ensures fit { IfOk result (FitEntry before.now entry.now) }
     ensures differ { ChecksDiffer result }
 {
     // No block of an opened table ends so far behind.
@@ -45,6 +47,7 @@ pub(crate) fn read_block<D: Disk>(
     entry: &IndexEntry,
 ) -> Result<Rows, TableFault>
     ensures answer { Answers (λ rows. rows) (spec.block_found before.now entry.now) number (D.told disk.old) result }
+    ensures fit { IfOk result (FitEntry before.now entry.now) }
     ensures differ { ChecksDiffer result }
     ensures same { D.told disk.new ≡ D.told disk.old }
     ensures count { D.changes disk.new ≡ D.changes disk.old }

@@ -2,7 +2,8 @@
 ghost use Rattle.std.specs.Prelude.{◌≡◌, ℕ, ◌+◌, ◌-◌, ◌<◌, ◌≤◌, ◌^◌, ◌∷◌, ◌++◌, List, [], true, nat_lt, length, IfOk, IfErr, OnOk, OnErr};
 ghost use Rattle.keel_base.specs.declared.row.Row.{Row as ARow};
 ghost use Rattle.keel_base.specs.Keys.{key_lt};
-ghost use Rattle.keel_table.specs.Spelling.{IsRow, entry_bytes, footer_bytes, checked, FooterFits};
+ghost use Rattle.keel_base.specs.Rows.{IsRow};
+ghost use Rattle.keel_table.specs.Spelling.{entry_bytes, footer_bytes, checked, FooterFits};
 
 use crate::index::Footer;
 use crate::spelling;
@@ -82,12 +83,14 @@ struct Closing {
 }
 
 impl Builder {
-    ghost use Rattle.keel_table.specs.Building.{IsBuilding, closed_by, footer_behind, key_before, last_block, left_over, piece_bytes, pieces_bytes};
+    ghost use Rattle.keel_table.specs.Building.{IsBuilding, blocks_given, bytes_given, closed_by, footer_behind, key_before, last_block, left_over, piece_bytes, pieces_bytes, pieces_of};
     ghost use Rattle.keel_table.specs.Spelling.{IsTableOf};
 
     /// A table of rows whose sequence numbers are from `first` to `last`.
     pub fn new(alloc: Global, first: u64, last: u64) -> Result<Builder, OutOfMemory>
-        ensures { IfOk result (IsBuilding first last [] []) }
+        ensures building { IfOk result (IsBuilding first last [] []) }
+        ensures bytes { IfOk result (λ b. bytes_given b ≡ 0) }
+        ensures blocks { IfOk result (λ b. blocks_given b ≡ 0) }
     {
         Ok(Builder {
             first,
@@ -106,6 +109,27 @@ impl Builder {
         ensures { result.now ≡ key_before self.now }
     {
         self.last_key.as_slice()
+    }
+
+    /// How many bytes the pieces have that `add` gave, checks included.
+    pub fn size(&self) -> u64
+        ensures { result ≡ bytes_given self.now }
+    {
+        self.place
+    }
+
+    /// How many pieces `add` gave: a block each.
+    pub fn blocks(&self) -> u32
+        ensures { result ≡ blocks_given self.now }
+    {
+        self.blocks
+    }
+
+    /// How many bytes the rows have that are in no piece yet. Where it is not 0, `finish` gives a block of them.
+    pub fn open_size(&self) -> usize
+        ensures { result ≡ length (left_over self.now) }
+    {
+        self.open_rows.len()
     }
 
     /// Whether the open block stays open behind a row of so many bytes.
@@ -186,6 +210,8 @@ impl Builder {
         ensures ok { IfOk result (λ piece. (first last : ℕ) (rows : List ARow) (given : List ℕ) → IsBuilding first last rows given self.old
             → IsBuilding first last (rows ++ row.now ∷ []) (given ++ piece_bytes piece) self.new) }
         ensures key { OnOk result (key_before self.new ≡ row.now.key) }
+        ensures bytes { IfOk result (λ piece. bytes_given self.new ≡ bytes_given self.old + length (piece_bytes piece)) }
+        ensures blocks { IfOk result (λ piece. blocks_given self.new ≡ blocks_given self.old + pieces_of piece) }
         ensures err { OnErr result (self.new ≡ self.old) }
     {
         let Some(rows) = self.rows.checked_add(1) else {

@@ -1,6 +1,7 @@
 // A table whose bytes are all in memory, as a file's are once they were read whole.
-ghost use Rattle.std.specs.Prelude.{◌≡◌, length};
+ghost use Rattle.std.specs.Prelude.{◌≡◌, length, IfOk};
 ghost use Rattle.keel_table.specs.Answers.{ChecksDiffer, Finds};
+ghost use Rattle.keel_table.specs.Blocks.{FitEntry};
 ghost use Rattle.keel_table.specs.Opening as spec;
 
 use crate::TableFault;
@@ -63,6 +64,7 @@ pub fn block_in(
     entry: &IndexEntry,
 ) -> Result<Rows, TableFault>
     ensures answer { Finds (λ rows. rows) result (spec.block_found before.now entry.now bytes.now) }
+    ensures fit { IfOk result (FitEntry before.now entry.now) }
     ensures differ { ChecksDiffer result }
 {
     let body = checked_at(alloc, bytes, entry.place, entry.size)?;

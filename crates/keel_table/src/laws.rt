@@ -1,5 +1,7 @@
 //! Laws of the format, each as the contract of a function.
+ghost use Rattle.keel_table.specs.Blocks.{BlocksAscend};
 ghost use Rattle.keel_table.specs.Laws.{TablesOpen, BlocksAreSpelled, IndexesAreSpelled, FootersAreSpelled};
+ghost use Rattle.keel_table.specs.Sizes.{OneRowSize, TablesAreSmall};
 
 /// The file of a table opens as the table of its rows: each block gives its rows, and a get the row of its key.
 pub fn tables_open()
@@ -19,4 +21,19 @@ pub fn indexes_are_spelled()
 /// What opening takes as the footer is what the last bytes spell, and with blocks and index it is the whole file.
 pub fn footers_are_spelled()
     ensures { FootersAreSpelled }
+{}
+
+/// Blocks that were read one after the other from the first on have rows whose keys rise from each to the next.
+pub fn blocks_ascend()
+    ensures { BlocksAscend }
+{}
+
+/// The table of one row of a key and a value of k and v bytes has 89 + 2k + v bytes.
+pub fn one_row_size()
+    ensures { OneRowSize }
+{}
+
+/// A table that a builder makes has at most 2^56 bytes, and as many rows: the most that a manifest can tell.
+pub fn tables_are_small()
+    ensures { TablesAreSmall }
 {}

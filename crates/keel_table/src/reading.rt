@@ -3,7 +3,8 @@ ghost use Rattle.std.specs.Prelude.{◌≡◌, ◌≢◌, ◌==◌, ◌&&◌, �
 ghost use Rattle.keel_base.specs.Keys.{key_eq, key_lt};
 ghost use Rattle.keel_fields.specs.Reading.{Gives};
 ghost use Rattle.keel_table.specs.Fields as spec;
-ghost use Rattle.keel_table.specs.Spelling.{last_key, most_value};
+ghost use Rattle.keel_base.specs.Rows.{most_value};
+ghost use Rattle.keel_table.specs.Spelling.{last_key};
 
 use crate::index::{Footer, IndexEntries, IndexEntry};
 use keel_base::{Bytes, Kind, Row, Rows};

@@ -1,5 +1,6 @@
 // Writing the parts of a table.
 ghost use Rattle.std.specs.Prelude.{◌≡◌, ◌<◌, ◌≤◌, ◌^◌, ◌++◌, ◌∷◌, [], length, IfOk, OnOk};
+ghost use Rattle.keel_base.specs.Rows.{IsRow};
 ghost use Rattle.keel_table.specs.Spelling as spec;
 
 use crate::index::{Footer, IndexEntry};
@@ -43,7 +44,7 @@ fn kind_byte(kind: Kind) -> u8
 }
 
 fn put_row(out: &mut Bytes, row: &Row) -> Result<(), OutOfMemory>
-    requires { spec.IsRow row.now }
+    requires { IsRow row.now }
     ensures { OnOk result (out.new ≡ out.old ++ spec.row_bytes row.now) }
 {
     put_number(out, row.seq)?;
@@ -54,7 +55,7 @@ fn put_row(out: &mut Bytes, row: &Row) -> Result<(), OutOfMemory>
 }
 
 fn put_lengths(out: &mut Bytes, row: &Row) -> Result<(), OutOfMemory>
-    requires { spec.IsRow row.now }
+    requires { IsRow row.now }
     ensures { OnOk result (out.new ≡ out.old ++ (spec.count (length row.now.key) ++ spec.count (length row.now.value))) }
 {
     put_count(out, row.key.len() as u32)?;
@@ -63,7 +64,7 @@ fn put_lengths(out: &mut Bytes, row: &Row) -> Result<(), OutOfMemory>
 
 /// The bytes of a row.
 pub(crate) fn row_bytes(alloc: Global, row: &Row) -> Result<Bytes, OutOfMemory>
-    requires { spec.IsRow row.now }
+    requires { IsRow row.now }
     ensures { IfOk result (λ b. b ≡ spec.row_bytes row.now) }
 {
     let mut out = Bytes::new(alloc);

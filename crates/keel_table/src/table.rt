@@ -1,11 +1,15 @@
 // A table that is open.
-ghost use Rattle.std.specs.Prelude.{◌≡◌, ◌+◌, ◌<◌, ◌≤◌, ℕ, Some, None, true, false, List, [], length, slice_get};
+ghost use Rattle.std.specs.Prelude.{◌≡◌, ◌+◌, ◌<◌, ◌≤◌, ℕ, Some, None, true, false, List, [], length, take, slice_get, IfOk};
+ghost use Rattle.std.specs.List.{AllByRecursion};
+ghost use Rattle.keel_base.specs.declared.row.Row.{Row as ARow};
 ghost use Rattle.keel_base.specs.Keys.{key_lt};
 ghost use Rattle.keel_disk.specs.Counts.{FaultCounted};
 ghost use Rattle.keel_table.specs.declared.index.IndexEntry.{IndexEntry as AnEntry};
 ghost use Rattle.keel_table.specs.Answers.{Answers, BlockAnswers, ChecksDiffer, GetAnswers, fault_in};
+ghost use Rattle.keel_table.specs.Blocks.{FitCovering, FitEntries, IsBelow};
 ghost use Rattle.keel_table.specs.Fields.{in_order};
 ghost use Rattle.keel_table.specs.Opening.{covering, last_key_of, nth_entry};
+ghost use Rattle.keel_table.specs.Spelling.{rows_of};
 
 use crate::TableFault;
 use crate::block::{read_block, row_of};
@@ -66,10 +70,12 @@ impl Table {
     }
 
     /// The rows of a block. It is tested for its check, then that its rows are whole, within their limits, and
-    /// ascend, from over the last key of the block before up to the last key that the index tells.
+    /// ascend, from over the last key of the block before up to the last key that the index tells. So much is known
+    /// of them over any device, and `laws::blocks_ascend` says it of several blocks.
     pub fn block<D: Disk>(&self, alloc: Global, disk: &mut D, i: u32) -> Result<Rows, TableFault>
         requires { i < length (entries_of self.now) }
         ensures answer { BlockAnswers (nth_entry [] (entries_of self.now) i) (number_of self.now) (D.told disk.old) result }
+        ensures fit { IfOk result (FitCovering (nth_entry [] (entries_of self.now) i)) }
         ensures differ { ChecksDiffer result }
         ensures same { D.told disk.new ≡ D.told disk.old }
         ensures count { D.changes disk.new ≡ D.changes disk.old }
@@ -79,6 +85,19 @@ impl Table {
         let entries = self.entries.as_slice();
         let before = last_key_of(&entries[..i as usize]);
         read_block(alloc, disk, self.number, before, &entries[i as usize])
+    }
+
+    /// The number of the first block that may have a key at or over this one, which is where a scan from the key
+    /// begins: how many blocks there are, where all of the table is below the key.
+    pub fn first_block(&self, key: &[u8]) -> u32
+        ensures within { result ≤ length (entries_of self.now) }
+        ensures before { (blocks : List (List ARow)) → FitEntries [] blocks (entries_of self.now) → AllByRecursion (IsBelow key.now) (rows_of (take result blocks)) }
+        ensures at { (e : AnEntry) → Some e ≡ slice_get (entries_of self.now) result → key_lt e.last key.now ≡ false }
+    {
+        let below = count_below(self.entries.as_slice(), key, self.footer.index);
+        let blocks = self.footer.blocks as usize;
+        prove!(below <= blocks);
+        below as u32
     }
 
     /// The row of a key. It reads the one block whose keys reach up to the key or over it, and none where the key is

@@ -1,7 +1,7 @@
 ghost use Rattle.std.specs.Prelude.{◌≡◌, IsTrue};
 ghost use Rattle.keel_base.specs.Keys.{key_lt};
 ghost use Rattle.keel_table.specs.Building.{key_before};
-ghost use Rattle.keel_table.specs.Spelling.{IsRow};
+ghost use Rattle.keel_base.specs.Rows.{IsRow};
 
 use crate::{Builder, Pieces, Table, TableFault, block_in, laws, open_bytes, open_table};
 use keel_base::{Bytes, FileName, Kind, OutOfMemory, Row};
