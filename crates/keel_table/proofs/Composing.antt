@@ -1,10 +1,6 @@
 -- What several steps of reading answer together.
 use Rattle.std.proofs.Common.{◌≡◌, ℕ, ◌≤◌, List, Option, Some, None, Result, Ok, Err, refl, sym, ap, ◌∙◌, arith}
-use Rattle.std.specs.Prelude.{IfSome}
 use Rattle.std.proofs.lemmas.Bool.{le-leb}
-use Rattle.keel_base.specs.declared.failure.Fault.{Fault}
-use Rattle.keel_base.specs.Counts.{Rose}
-use Rattle.keel_disk.specs.Counts.{FaultCounted}
 use Rattle.keel_disk.specs.Told.{Told}
 use Rattle.keel_base.specs.declared.file_name.FileName.TheVariants.{Table as TableName}
 use Rattle.keel_table.specs.declared.fault.TableFault.{TableFault}
@@ -70,21 +66,6 @@ pub found_next : {A B C : Type 0} (view : A → C) (first : List ℕ → Result 
     → Answers (λ (b : B). b) first number told (Ok x) → Answers view (λ bytes. next bytes x) number told result → Answers view (λ bytes. and_then (first bytes) (next bytes)) number told result
 found_next view first next number None x result h k = tt
 found_next view first next number (Some told) x result h k = causes_next view first next number told x result h k
-
--- ---- faults over several calls
-
-risen_since : (before between now : ℕ) (answered : Option Fault) → before ≤ between → IfSome answered (λ _. Rose between now) → IfSome answered (λ _. Rose before now)
-risen_since before between now None low h = tt
-risen_since before between now (Some f) low h = omega (arith, low, h)
-
--- a call that failed behind calls that didn't is the cause of the whole
-pub fault_behind : (before between now : ℕ) (first last answered : Option Fault) → FaultCounted before between first None → FaultCounted between now last answered → FaultCounted before now last answered
-fault_behind before between now first last answered h k = record {
-  never_falls = omega (arith, h.never_falls, k.never_falls);
-  risen = risen_since before between now answered h.never_falls k.risen;
-  last_is = k.last_is;
-  not_space_limit = k.not_space_limit;
-}
 
 -- ---- opening
 

@@ -1,6 +1,7 @@
 pub mod Lengths
 pub mod Adding
 pub mod Loops
+pub mod Walk
 pub mod Composing
 pub mod Searching
 pub mod Reread

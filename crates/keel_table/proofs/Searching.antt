@@ -12,8 +12,8 @@ use Rattle.keel_disk.specs.Told.{Told}
 use Rattle.keel_table.specs.declared.fault.TableFault.{TableFault}
 use Rattle.keel_table.specs.Answers.{Answers, BlockAnswers, GetAnswers}
 use Rattle.keel_table.specs.Blocks.{FitEntry, FitCovering}
-use Rattle.keel_table.specs.Opening.{Covering, last_key_of, nth_entry, covering, block_found, row_of, row_found}
-use Rattle.keel_table.proofs.Composing.{found_behind, failed_behind}
+use Rattle.keel_table.specs.Opening.{Covering, last_key_of, nth_entry, covering, block_found, row_found}
+use Rattle.keel_table.specs.Walking.{row_among}
 use Rattle.keel_table.proofs.Loops.{taken_entry, both_hold}
 use Rattle.keel_base.proofs.KeyOrder.{lt_then_lt, lt_then_not_lt}
 
@@ -166,16 +166,8 @@ covered es i before key e d below from lt is at =
     let here : found e ≡ slice_get es i = at_index es i e d lt is in
     covers [] es key i e below here (from i e (omega arith) here) ∙ ap (λ (k : List ℕ). Some (pair k e)) (sym at)
 
-pub row_answered : (es : List IndexEntry) (i : ℕ) (before key : List ℕ) (e d : IndexEntry) (number : ℕ) (told : Option Told) (rows : List Row) (row : Option Row) → AreBelow es key i → AreNotBelow es key i → i < length es
-    → e ≡ get_or es i d → before ≡ last_key_of [] (take i es) → row ≡ row_of key rows → Answers (λ (rs : List Row). rs) (block_found before e) number told (Ok rows) → GetAnswers (covering [] es key) key number told (Ok row)
+pub row_answered : (es : List IndexEntry) (i : ℕ) (before key : List ℕ) (e d : IndexEntry) (number : ℕ) (told : Option Told) (result : Result (Option Row) TableFault) → AreBelow es key i → AreNotBelow es key i → i < length es
+    → e ≡ get_or es i d → before ≡ last_key_of [] (take i es) → Answers (λ (row : Option Row). row) (λ bytes. row_among key (block_found before e bytes)) number told result → GetAnswers (covering [] es key) key number told result
 unfolding row_found
-row_answered es i before key e d number told rows row below from lt is at gives h =
-    subst (λ (c : Option Covering). GetAnswers c key number told (Ok row)) (sym (covered es i before key e d below from lt is at))
-    (found_behind (λ (r : Option Row). r) (block_found before e) (λ (rs : List Row). Ok (row_of key rs)) number told rows (Ok row) h (ap (λ (r : Option Row). Ok r) (sym gives)))
-
-pub fault_answered : (es : List IndexEntry) (i : ℕ) (before key : List ℕ) (e d : IndexEntry) (number : ℕ) (told : Option Told) (f : TableFault) → AreBelow es key i → AreNotBelow es key i → i < length es
-    → e ≡ get_or es i d → before ≡ last_key_of [] (take i es) → Answers {A = List Row} (λ (rs : List Row). rs) (block_found before e) number told (Err f) → GetAnswers (covering [] es key) key number told (Err f)
-unfolding row_found
-fault_answered es i before key e d number told f below from lt is at h =
-    subst (λ (c : Option Covering). GetAnswers c key number told (Err f)) (sym (covered es i before key e d below from lt is at))
-    (failed_behind (λ (r : Option Row). r) (block_found before e) (λ (_ : List ℕ) (rs : List Row). Ok (row_of key rs)) number told f h)
+row_answered es i before key e d number told result below from lt is at h =
+    subst (λ (c : Option Covering). GetAnswers c key number told result) (sym (covered es i before key e d below from lt is at)) h

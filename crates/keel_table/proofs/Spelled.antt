@@ -1,6 +1,6 @@
 -- What reads well as a block, an index or a footer is what spells it.
 use Rattle.std.proofs.Common.{◌≡◌, ℕ, zero, suc, ◌+◌, ◌-◌, ◌<◌, ◌≤◌, Bool, true, false, cond, eqb, ltb, List, [], ◌∷◌, ◌++◌, length, take, drop, Option, Some, None, Result, Ok, Err, refl, sym, ap, subst, ◌∙◌, arith, inl, inr, eq-eqb}
-use Rattle.std.specs.Prelude.{◌&&◌}
+use Rattle.std.specs.Prelude.{◌&&◌, IfOk}
 use Rattle.std.specs.List.{flat_map, AllByRecursion}
 use Rattle.std.specs.Int.{w32, from_le_bytes}
 use Rattle.std.proofs.lemmas.Bool.{cases_lt, ltb-false, eqb-true, and_parts, and_from}
@@ -21,6 +21,8 @@ use Rattle.keel_base.specs.Rows.{IsRow}
 use Rattle.keel_table.specs.Spelling.{number, count, row_bytes, rows_bytes, Ascend, last_key, checked, entry_bytes, IsEntry, magic, footer_body}
 use Rattle.keel_table.specs.Fields.{row_at, may_stand, has_place, placed_row, next_row_at, rows_at, all_rows_at, entry_at, entry_fits, fitting_entry, next_entry_at, entries_at, footer_at, in_order}
 use Rattle.keel_table.specs.Opening.{Damage, bad_check, bad_shape, and_then, needs, ending_at, compared, tested, part_at, checked_at, footer_of_size, footer_found, entries_in, entries_found, rows_in, block_found}
+use Rattle.keel_table.specs.declared.fault.TableFault.{TableFault}
+use Rattle.keel_table.specs.Answers.{Finds}
 use Rattle.keel_table.specs.Blocks.{FitEntry}
 use Rattle.keel_table.specs.Laws.{IsBlockAt, IsIndexAt, IsFooterAt, BlocksAreSpelled, IndexesAreSpelled, FootersAreSpelled}
 use Rattle.keel_base.proofs.KeyOrder.{eq_same}
@@ -189,6 +191,10 @@ pub rows_fit : (before : List ℕ) (e : IndexEntry) (body : List ℕ) (rows : Li
 rows_fit before e body rows fits read =
     let t = rows_take (length body) before e.last body rows fits read in
     record { some = t.some; each = t.each; rise = t.rise; last = t.ends }
+
+pub found_fits : (before : List ℕ) (e : IndexEntry) (body : List ℕ) (result : Result (List Row) TableFault) → IsBytes body → Finds (λ (rows : List Row). rows) result (rows_in before e body) → IfOk result (FitEntry before e)
+found_fits before e body (Ok rows) fits h = rows_fit before e body rows fits (ending_ok (e.place + e.size) (all_rows_at before e.last body) rows h)
+found_fits before e body (Err fault) fits h = tt
 
 -- ---- blocks
 

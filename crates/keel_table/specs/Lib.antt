@@ -3,6 +3,7 @@ pub mod Building
 pub mod Fields
 pub mod Opening
 pub mod Blocks
+pub mod Walking
 pub mod Answers
 pub mod Tables
 pub mod Laws

@@ -1,9 +1,10 @@
 // Reading a block.
 ghost use Rattle.std.specs.Prelude.{◌≡◌, IfOk};
-ghost use Rattle.keel_disk.specs.Counts.{FaultCounted};
+ghost use Rattle.keel_disk.specs.Seen.{IsQuiet};
 ghost use Rattle.keel_table.specs.Answers.{Answers, ChecksDiffer, Finds, fault_in};
 ghost use Rattle.keel_table.specs.Blocks.{FitEntry};
 ghost use Rattle.keel_table.specs.Opening as spec;
+ghost use Rattle.keel_table.specs.Walking.{asked_found, key_asked, row_among};
 
 use crate::TableFault;
 use crate::checking::read_checked;
@@ -13,6 +14,30 @@ use keel_base::{Row, Rows};
 use keel_disk::Disk;
 use keel_fields::FieldError;
 use std::alloc::Global;
+
+/// The rows in the bytes of a block that are asked for.
+fn asked_in(
+    alloc: Global,
+    asked: Option<&[u8]>,
+    before: &[u8],
+    entry: &IndexEntry,
+    body: &[u8],
+) -> Result<Rows, TableFault>
+    ensures found { Finds (λ rows. rows) result (asked_found (key_asked asked.entry) (spec.rows_in before.now entry.now body.now)) }
+    ensures differ { ChecksDiffer result }
+{
+    // No block of an opened table ends so far behind.
+    let Some(end) = entry.place.checked_add(u64::from(entry.size)) else {
+        return Err(TableFault::OutOfMemory);
+    };
+    match reading::rows_at(alloc, asked, before, entry.last.as_slice(), body) {
+        Ok(rows) => Ok(rows),
+        Err(FieldError::OutOfMemory) => Err(TableFault::OutOfMemory),
+        Err(FieldError::Bad { left }) => Err(TableFault::BadShape {
+            at: end.saturating_sub(left as u64),
+        }),
+    }
+}
 
 /// The rows in the bytes of a block.
 pub(crate) fn rows_in(
@@ -25,16 +50,23 @@ pub(crate) fn rows_in(
     ensures fit { IfOk result (FitEntry before.now entry.now) }
     ensures differ { ChecksDiffer result }
 {
-    // No block of an opened table ends so far behind.
-    let Some(end) = entry.place.checked_add(u64::from(entry.size)) else {
-        return Err(TableFault::OutOfMemory);
-    };
-    match reading::all_rows_at(alloc, before, entry.last.as_slice(), body) {
-        Ok(rows) => Ok(rows),
-        Err(FieldError::OutOfMemory) => Err(TableFault::OutOfMemory),
-        Err(FieldError::Bad { left }) => Err(TableFault::BadShape {
-            at: end.saturating_sub(left as u64),
-        }),
+    asked_in(alloc, None, before, entry, body)
+}
+
+/// The row of a key in the bytes of a block.
+fn row_in(
+    alloc: Global,
+    key: &[u8],
+    before: &[u8],
+    entry: &IndexEntry,
+    body: &[u8],
+) -> Result<Option<Row>, TableFault>
+    ensures found { Finds (λ row. row) result (row_among key.now (spec.rows_in before.now entry.now body.now)) }
+    ensures differ { ChecksDiffer result }
+{
+    match asked_in(alloc, Some(key), before, entry, body) {
+        Ok(rows) => Ok(row_of(rows, key)),
+        Err(fault) => Err(fault),
     }
 }
 
@@ -46,13 +78,10 @@ pub(crate) fn read_block<D: Disk>(
     before: &[u8],
     entry: &IndexEntry,
 ) -> Result<Rows, TableFault>
-    ensures answer { Answers (λ rows. rows) (spec.block_found before.now entry.now) number (D.told disk.old) result }
+    ensures answer { Answers (λ rows. rows) (spec.block_found before.now entry.now) number (D.seen disk.old).told result }
     ensures fit { IfOk result (FitEntry before.now entry.now) }
     ensures differ { ChecksDiffer result }
-    ensures same { D.told disk.new ≡ D.told disk.old }
-    ensures count { D.changes disk.new ≡ D.changes disk.old }
-    ensures cause { FaultCounted (D.faults disk.old) (D.faults disk.new) (D.last_fault disk.new) (fault_in result) }
-    ensures simulated { D.is_simulated disk.new ≡ D.is_simulated disk.old }
+    ensures quiet { IsQuiet (D.seen disk.old) (fault_in result) (D.seen disk.new) }
 {
     match read_checked(alloc, disk, number, entry.place, entry.size) {
         Ok(body) => rows_in(alloc, before, entry, body.as_slice()),
@@ -60,8 +89,27 @@ pub(crate) fn read_block<D: Disk>(
     }
 }
 
+/// The row of a key in the block of an entry. All rows of the block are tested, and the one is copied.
+pub(crate) fn read_row<D: Disk>(
+    alloc: Global,
+    disk: &mut D,
+    number: u64,
+    key: &[u8],
+    before: &[u8],
+    entry: &IndexEntry,
+) -> Result<Option<Row>, TableFault>
+    ensures answer { Answers (λ row. row) (λ bytes. row_among key.now (spec.block_found before.now entry.now bytes)) number (D.seen disk.old).told result }
+    ensures differ { ChecksDiffer result }
+    ensures quiet { IsQuiet (D.seen disk.old) (fault_in result) (D.seen disk.new) }
+{
+    match read_checked(alloc, disk, number, entry.place, entry.size) {
+        Ok(body) => row_in(alloc, key, before, entry, body.as_slice()),
+        Err(fault) => Err(fault),
+    }
+}
+
 /// The row of a key.
-pub(crate) fn row_of(rows: Rows, key: &[u8]) -> Option<Row>
+fn row_of(rows: Rows, key: &[u8]) -> Option<Row>
     ensures { result ≡ spec.row_of key.now rows }
 {
     rows.into_vec()

@@ -1,7 +1,7 @@
 // Reading a part of a table with the check behind it.
 ghost use Rattle.std.specs.Prelude.{◌≡◌, ◌+◌, ◌≤◌, length, take, drop};
 ghost use Rattle.std.specs.Int.{w32, from_le_bytes};
-ghost use Rattle.keel_disk.specs.Counts.{FaultCounted};
+ghost use Rattle.keel_disk.specs.Seen.{IsQuiet};
 ghost use Rattle.keel_table.specs.Answers.{Answers, ChecksDiffer, Finds, fault_in};
 ghost use Rattle.keel_table.specs.Opening as spec;
 
@@ -59,12 +59,9 @@ pub(crate) fn read_checked<D: Disk>(
     place: u64,
     size: u32,
 ) -> Result<Bytes, TableFault>
-    ensures answer { Answers (λ b. b) (spec.checked_at place size) number (D.told disk.old) result }
+    ensures answer { Answers (λ b. b) (spec.checked_at place size) number (D.seen disk.old).told result }
     ensures differ { ChecksDiffer result }
-    ensures same { D.told disk.new ≡ D.told disk.old }
-    ensures count { D.changes disk.new ≡ D.changes disk.old }
-    ensures cause { FaultCounted (D.faults disk.old) (D.faults disk.new) (D.last_fault disk.new) (fault_in result) }
-    ensures simulated { D.is_simulated disk.new ≡ D.is_simulated disk.old }
+    ensures quiet { IsQuiet (D.seen disk.old) (fault_in result) (D.seen disk.new) }
 {
     // More than can be read at once would not be held.
     if u32::MAX - 4 < size {

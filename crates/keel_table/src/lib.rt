@@ -39,6 +39,7 @@ mod opening;
 mod reading;
 mod spelling;
 mod table;
+mod view;
 
 pub use builder::{Builder, FinishRefused, Pieces};
 pub use fault::TableFault;
@@ -47,5 +48,7 @@ pub use index::{Footer, IndexEntries, IndexEntry};
 pub use opening::open_table;
 pub use table::Table;
 
+#[cfg(test)]
+mod one_file;
 #[cfg(test)]
 mod tests;

@@ -1,6 +1,6 @@
 // Opening a table.
 ghost use Rattle.std.specs.Prelude.{◌≡◌, ◌==◌, None, ◌+◌, ◌<◌, ◌≤◌, ◌^◌, true, length, IfOk};
-ghost use Rattle.keel_disk.specs.Counts.{FaultCounted};
+ghost use Rattle.keel_disk.specs.Seen.{IsQuiet};
 ghost use Rattle.keel_table.specs.Answers.{Answers, ChecksDiffer, Finds, fault_in};
 ghost use Rattle.keel_table.specs.Fields.{footer_at, in_order};
 ghost use Rattle.keel_table.specs.Opening as spec;
@@ -57,13 +57,10 @@ fn read_footer<D: Disk>(
     size: u64,
 ) -> Result<Footer, TableFault>
     requires { 52 ≤ size }
-    ensures answer { Answers (λ f. f) (spec.footer_found size) number (D.told disk.old) result }
+    ensures answer { Answers (λ f. f) (spec.footer_found size) number (D.seen disk.old).told result }
     ensures within { IfOk result (λ f. f.index + (f.size + 52) ≡ size) }
     ensures differ { ChecksDiffer result }
-    ensures same { D.told disk.new ≡ D.told disk.old }
-    ensures count { D.changes disk.new ≡ D.changes disk.old }
-    ensures cause { FaultCounted (D.faults disk.old) (D.faults disk.new) (D.last_fault disk.new) (fault_in result) }
-    ensures simulated { D.is_simulated disk.new ≡ D.is_simulated disk.old }
+    ensures quiet { IsQuiet (D.seen disk.old) (fault_in result) (D.seen disk.new) }
 {
     match read_checked(alloc, disk, number, size - 48, 44) {
         Ok(body) => footer_of_size(body.as_slice(), size),
@@ -101,14 +98,11 @@ fn read_entries<D: Disk>(
     footer: Footer,
 ) -> Result<IndexEntries, TableFault>
     requires { footer.index + footer.size < 2 ^ 64 }
-    ensures answer { Answers (λ entries. entries) (spec.entries_found footer) number (D.told disk.old) result }
+    ensures answer { Answers (λ entries. entries) (spec.entries_found footer) number (D.seen disk.old).told result }
     ensures order { IfOk result (λ entries. in_order footer.index 0 None entries ≡ true) }
     ensures blocks { IfOk result (λ entries. length entries ≡ footer.blocks) }
     ensures differ { ChecksDiffer result }
-    ensures same { D.told disk.new ≡ D.told disk.old }
-    ensures count { D.changes disk.new ≡ D.changes disk.old }
-    ensures cause { FaultCounted (D.faults disk.old) (D.faults disk.new) (D.last_fault disk.new) (fault_in result) }
-    ensures simulated { D.is_simulated disk.new ≡ D.is_simulated disk.old }
+    ensures quiet { IsQuiet (D.seen disk.old) (fault_in result) (D.seen disk.new) }
 {
     match read_checked(alloc, disk, number, footer.index, footer.size) {
         Ok(index) => entries_in(alloc, footer, index.as_slice()),
@@ -129,13 +123,10 @@ pub fn open_table<D: Disk>(
     size: u64,
 ) -> Result<Table, TableFault>
     ensures small { size < 52 → result ≡ Err (TableFault.BadShape 0) }
-    ensures answer { 52 ≤ size → Answers shown (spec.opened size) number (D.told disk.old) result }
+    ensures answer { 52 ≤ size → Answers shown (spec.opened size) number (D.seen disk.old).told result }
     ensures number { IfOk result (λ table. number_of table ≡ number) }
     ensures differ { ChecksDiffer result }
-    ensures same { D.told disk.new ≡ D.told disk.old }
-    ensures count { D.changes disk.new ≡ D.changes disk.old }
-    ensures cause { FaultCounted (D.faults disk.old) (D.faults disk.new) (D.last_fault disk.new) (fault_in result) }
-    ensures simulated { D.is_simulated disk.new ≡ D.is_simulated disk.old }
+    ensures quiet { IsQuiet (D.seen disk.old) (fault_in result) (D.seen disk.new) }
 {
     if size < LEAST_SIZE {
         return Err(TableFault::BadShape { at: 0 });

@@ -1,13 +1,14 @@
 // Reading the parts of a table, field by field.
-ghost use Rattle.std.specs.Prelude.{◌≡◌, ◌≢◌, ◌==◌, ◌&&◌, ◌+◌, ◌≤◌, length, nat_le, IfOk};
+ghost use Rattle.std.specs.Prelude.{◌≡◌, ◌≢◌, ◌==◌, ◌&&◌, ◌+◌, ◌≤◌, [], ◌∷◌, ◌++◌, filter, length, nat_le, IfOk, OnOk};
 ghost use Rattle.keel_base.specs.Keys.{key_eq, key_lt};
 ghost use Rattle.keel_fields.specs.Reading.{Gives};
 ghost use Rattle.keel_table.specs.Fields as spec;
+ghost use Rattle.keel_table.specs.Walking.{asked_rows, is_asked, key_asked, row_shown};
 ghost use Rattle.keel_base.specs.Rows.{most_value};
-ghost use Rattle.keel_table.specs.Spelling.{last_key};
 
 use crate::index::{Footer, IndexEntries, IndexEntry};
-use keel_base::{Bytes, Kind, Row, Rows};
+use crate::view::RowView;
+use keel_base::{Bytes, Kind, OutOfMemory, Rows};
 use keel_fields::{FieldError, bytes_at, u32_at, u32_between, u64_at};
 use std::alloc::Global;
 use std::cmp::Ordering;
@@ -63,16 +64,14 @@ fn header_at(bytes: &[u8]) -> Result<(Header, &[u8]), FieldError>
 }
 
 #[tactic(auto, unfolding(crate::specs::Fields::row_at))]
-fn row_at(alloc: Global, bytes: &[u8]) -> Result<(Row, &[u8]), FieldError>
-    ensures { Gives (λ x. (x.0, x.1.now)) result (spec.row_at bytes.now) }
+fn row_at(bytes: &[u8]) -> Result<(RowView<'_>, &[u8]), FieldError>
+    ensures { Gives (λ x. (row_shown x.0, x.1.now)) result (spec.row_at bytes.now) }
 {
     let (header, rest) = header_at(bytes)?;
     let (key, rest) = bytes_at(rest, header.key as usize)?;
     let (value, rest) = bytes_at(rest, header.value as usize)?;
-    let key = Bytes::from_slice(alloc, key)?;
-    let value = Bytes::from_slice(alloc, value)?;
     Ok((
-        Row {
+        RowView {
             seq: header.seq,
             kind: header.kind,
             key,
@@ -110,16 +109,15 @@ fn has_place(before: &[u8], last: &[u8], key: &[u8], left: usize) -> bool
 
 #[tactic(auto, unfolding(crate::specs::Fields::next_row_at))]
 fn next_row_at<'a>(
-    alloc: Global,
     before: &[u8],
     last: &[u8],
     bytes: &'a [u8],
-) -> Result<(Row, &'a [u8]), FieldError>
-    ensures { Gives (λ x. (x.0, x.1.now)) result (spec.next_row_at before.now last.now bytes.now) }
+) -> Result<(RowView<'a>, &'a [u8]), FieldError>
+    ensures { Gives (λ x. (row_shown x.0, x.1.now)) result (spec.next_row_at before.now last.now bytes.now) }
 {
-    match row_at(alloc, bytes) {
+    match row_at(bytes) {
         Ok((row, rest)) => {
-            if has_place(before, last, row.key.as_slice(), rest.len()) {
+            if has_place(before, last, row.key, rest.len()) {
                 Ok((row, rest))
             } else {
                 Err(FieldError::Bad { left: bytes.len() })
@@ -130,34 +128,53 @@ fn next_row_at<'a>(
     }
 }
 
-/// The key of the last row, and the key before where there is none.
-fn key_behind<'a>(rows: &'a [Row], before: &'a [u8]) -> &'a [u8]
-    ensures { result.now ≡ last_key before.now rows.now }
+/// Whether a row is that of the key that is asked for. Where none is, each is.
+fn is_asked(key: Option<&[u8]>, row: &RowView<'_>) -> bool
+    ensures { result ≡ is_asked (key_asked key.entry) (row_shown row.now) }
 {
-    match rows.last() {
-        None => before,
-        Some(row) => row.key.as_slice(),
+    match key {
+        None => true,
+        Some(key) => is_same(row.key, key),
     }
 }
 
-/// The rows that the bytes are, all of them, behind a key and up to another.
-pub(crate) fn all_rows_at(
+/// Takes a row along, where it is asked for.
+fn take_asked(
     alloc: Global,
+    key: Option<&[u8]>,
+    row: &RowView<'_>,
+    rows: &mut Rows,
+) -> Result<(), OutOfMemory>
+    ensures { OnOk result (rows.new ≡ rows.old ++ filter (is_asked (key_asked key.entry)) (row_shown row.now ∷ [])) }
+{
+    if !is_asked(key, row) {
+        return Ok(());
+    }
+    rows.push(row.to_row(alloc)?)
+}
+
+/// Walks over the rows that the bytes are, all of them, behind a key and up to another, and tests each. It gives the
+/// row of the key that is asked for, and all rows where none is.
+pub(crate) fn rows_at(
+    alloc: Global,
+    asked: Option<&[u8]>,
     before: &[u8],
     last: &[u8],
     bytes: &[u8],
 ) -> Result<Rows, FieldError>
-    ensures { Gives (λ rows. rows) result (spec.all_rows_at before.now last.now bytes.now) }
+    ensures { Gives (λ rows. rows) result (asked_rows (key_asked asked.entry) (spec.all_rows_at before.now last.now bytes.now)) }
 {
     let mut rows = Rows::new(alloc);
+    let mut key = before;
     let mut rest = bytes;
     // A row has a byte at least.
     for _ in 0..bytes.len() {
-        let (row, after) = next_row_at(alloc, key_behind(rows.as_slice(), before), last, rest)?;
-        rows.push(row)?;
+        let (row, after) = next_row_at(key, last, rest)?;
+        take_asked(alloc, asked, &row, &mut rows)?;
         if after.is_empty() {
             return Ok(rows);
         }
+        key = row.key;
         rest = after;
     }
     Err(FieldError::Bad { left: rest.len() })

@@ -3,7 +3,7 @@ ghost use Rattle.std.specs.Prelude.{◌≡◌, ◌+◌, ◌<◌, ◌≤◌, ℕ,
 ghost use Rattle.std.specs.List.{AllByRecursion};
 ghost use Rattle.keel_base.specs.declared.row.Row.{Row as ARow};
 ghost use Rattle.keel_base.specs.Keys.{key_lt};
-ghost use Rattle.keel_disk.specs.Counts.{FaultCounted};
+ghost use Rattle.keel_disk.specs.Seen.{IsQuiet};
 ghost use Rattle.keel_table.specs.declared.index.IndexEntry.{IndexEntry as AnEntry};
 ghost use Rattle.keel_table.specs.Answers.{Answers, BlockAnswers, ChecksDiffer, GetAnswers, fault_in};
 ghost use Rattle.keel_table.specs.Blocks.{FitCovering, FitEntries, IsBelow};
@@ -12,7 +12,7 @@ ghost use Rattle.keel_table.specs.Opening.{covering, last_key_of, nth_entry};
 ghost use Rattle.keel_table.specs.Spelling.{rows_of};
 
 use crate::TableFault;
-use crate::block::{read_block, row_of};
+use crate::block::{read_block, read_row};
 use crate::index::{Footer, IndexEntries, IndexEntry};
 use crate::reading::is_below;
 use keel_base::{Row, Rows};
@@ -74,13 +74,10 @@ impl Table {
     /// of them over any device, and `laws::blocks_ascend` says it of several blocks.
     pub fn block<D: Disk>(&self, alloc: Global, disk: &mut D, i: u32) -> Result<Rows, TableFault>
         requires { i < length (entries_of self.now) }
-        ensures answer { BlockAnswers (nth_entry [] (entries_of self.now) i) (number_of self.now) (D.told disk.old) result }
+        ensures answer { BlockAnswers (nth_entry [] (entries_of self.now) i) (number_of self.now) (D.seen disk.old).told result }
         ensures fit { IfOk result (FitCovering (nth_entry [] (entries_of self.now) i)) }
         ensures differ { ChecksDiffer result }
-        ensures same { D.told disk.new ≡ D.told disk.old }
-        ensures count { D.changes disk.new ≡ D.changes disk.old }
-        ensures cause { FaultCounted (D.faults disk.old) (D.faults disk.new) (D.last_fault disk.new) (fault_in result) }
-        ensures simulated { D.is_simulated disk.new ≡ D.is_simulated disk.old }
+        ensures quiet { IsQuiet (D.seen disk.old) (fault_in result) (D.seen disk.new) }
     {
         let entries = self.entries.as_slice();
         let before = last_key_of(&entries[..i as usize]);
@@ -108,12 +105,9 @@ impl Table {
         disk: &mut D,
         key: &[u8],
     ) -> Result<Option<Row>, TableFault>
-        ensures answer { GetAnswers (covering [] (entries_of self.now) key.now) key.now (number_of self.now) (D.told disk.old) result }
+        ensures answer { GetAnswers (covering [] (entries_of self.now) key.now) key.now (number_of self.now) (D.seen disk.old).told result }
         ensures differ { ChecksDiffer result }
-        ensures same { D.told disk.new ≡ D.told disk.old }
-        ensures count { D.changes disk.new ≡ D.changes disk.old }
-        ensures cause { FaultCounted (D.faults disk.old) (D.faults disk.new) (D.last_fault disk.new) (fault_in result) }
-        ensures simulated { D.is_simulated disk.new ≡ D.is_simulated disk.old }
+        ensures quiet { IsQuiet (D.seen disk.old) (fault_in result) (D.seen disk.new) }
     {
         let entries = self.entries.as_slice();
         let i = count_below(entries, key, self.footer.index);
@@ -121,9 +115,6 @@ impl Table {
             return Ok(None);
         }
         let before = last_key_of(&entries[..i]);
-        match read_block(alloc, disk, self.number, before, &entries[i]) {
-            Ok(rows) => Ok(row_of(rows, key)),
-            Err(fault) => Err(fault),
-        }
+        read_row(alloc, disk, self.number, key, before, &entries[i])
     }
 }

@@ -3,10 +3,9 @@ ghost use Rattle.keel_base.specs.Keys.{key_lt};
 ghost use Rattle.keel_table.specs.Building.{key_before};
 ghost use Rattle.keel_base.specs.Rows.{IsRow};
 
+use crate::one_file::OneFile;
 use crate::{Builder, Pieces, Table, TableFault, block_in, laws, open_bytes, open_table};
 use keel_base::{Bytes, FileName, Kind, OutOfMemory, Row};
-use keel_disk::Disk;
-use keel_simdisk::SimDisk;
 use std::alloc::Global;
 use std::test::Fail;
 
@@ -68,132 +67,141 @@ fn added(alloc: Global, builder: &mut Builder, row: &Row) -> Result<Option<Bytes
     Ok(builder.add(alloc, row).ok().ok_or("memory")?)
 }
 
-/// The table of these rows in a device, as file 7, with its size.
-fn stored(alloc: Global, last: u64, rows: &[Row]) -> Result<(SimDisk, u64), Fail> {
-    let mut disk = SimDisk::new(alloc, 1_000_000);
-    let mut builder = Builder::new(alloc, 1, last).ok().ok_or("memory")?;
-    let name = FileName::Table(7);
-    disk.create(alloc, name).ok().ok_or("create")?;
+/// The pieces of the table of these rows, one behind the other.
+fn table_of(alloc: Global, last: u64, rows: &[Row]) -> Result<Bytes, Fail> {
+    let mut bytes = Bytes::new(alloc);
+    let mut builder = Builder::new(alloc, 1, last)?;
     for row in rows {
         if let Some(piece) = added(alloc, &mut builder, row)? {
-            disk.append(alloc, name, piece.as_slice())
-                .ok()
-                .ok_or("append")?;
+            bytes.extend(piece.as_slice())?;
         }
     }
-    let Pieces { block, end } = builder.finish(alloc).ok().ok_or("memory")?;
+    let Pieces { block, end } = builder.finish(alloc)?;
     if let Some(block) = block {
-        disk.append(alloc, name, block.as_slice())
-            .ok()
-            .ok_or("append")?;
+        bytes.extend(block.as_slice())?;
     }
-    disk.append(alloc, name, end.as_slice())
-        .ok()
-        .ok_or("append")?;
-    let size = disk.size(alloc, name).ok().ok_or("size")?;
-    Ok((disk, size))
+    bytes.extend(end.as_slice())?;
+    Ok(bytes)
 }
 
-/// Some bytes as file 7.
-fn file_of(alloc: Global, bytes: &[u8]) -> Result<SimDisk, Fail> {
-    let mut disk = SimDisk::new(alloc, 1_000_000);
-    let name = FileName::Table(7);
-    disk.create(alloc, name).ok().ok_or("create")?;
-    disk.append(alloc, name, bytes).ok().ok_or("append")?;
-    Ok(disk)
+/// Puts of these keys to values of that size.
+fn puts(alloc: Global, keys: &[u8], size: usize) -> Result<Vec<Row>, Fail> {
+    let mut rows = Vec::new(alloc);
+    for key in keys {
+        rows.push(put(alloc, 1, &[*key], size)?)?;
+    }
+    Ok(rows)
+}
+
+/// A device in which some bytes are table 7.
+fn device(bytes: Bytes) -> OneFile {
+    OneFile {
+        name: FileName::Table(7),
+        bytes,
+    }
+}
+
+/// Two blocks: `a` and `b` in the first, `c` in the second.
+fn two_blocks(alloc: Global) -> Result<(OneFile, Table), Fail> {
+    let rows = puts(alloc, b"abc", 3000)?;
+    let bytes = table_of(alloc, 9, rows.as_slice())?;
+    let size = bytes.len() as u64;
+    let mut disk = device(bytes);
+    let table = open_table(alloc, &mut disk, 7, size)?;
+    Ok((disk, table))
 }
 
 /// How many bytes the value of a key has, where the table has one.
 fn size_of_value(
     alloc: Global,
-    disk: &mut SimDisk,
+    disk: &mut OneFile,
     table: &Table,
     key: &[u8],
 ) -> Result<Option<usize>, Fail> {
-    match table.get(alloc, disk, key) {
-        Ok(None) => Ok(None),
-        Ok(Some(row)) => Ok(Some(row.value.len())),
-        Err(_) => Err(Fail::from("no row was read")),
+    match table.get(alloc, disk, key)? {
+        None => Ok(None),
+        Some(row) => Ok(Some(row.value.len())),
     }
 }
 
 #[test]
 fn the_table_of_one_put(rt: HostRuntime) -> Result<(), Fail> {
     let alloc = rt.alloc();
-    let mut rows = Vec::new(alloc);
-    rows.push(put(alloc, 1, b"a", 1).ok().ok_or("memory")?)?;
-    let (mut disk, size) = stored(alloc, 1, rows.as_slice())?;
-    assert_eq!(rt; size, 92);
-    let bytes = disk
-        .read_at(alloc, FileName::Table(7), 0, 100)
-        .ok()
-        .ok_or("read")?;
+    let rows = puts(alloc, b"a", 1)?;
+    let bytes = table_of(alloc, 1, rows.as_slice())?;
     assert_eq!(rt; bytes.as_slice(), TABLE.as_slice());
-    let table = open_table(alloc, &mut disk, 7, size).ok().ok_or("open")?;
-    assert_eq!(rt; table.blocks(), 1);
-    for (key, size) in [(b"a".as_slice(), Some(1)), (b"A", None), (b"b", None)] {
-        assert_eq!(rt; size_of_value(alloc, &mut disk, &table, key)?, size);
-    }
     Ok(())
 }
 
 #[test]
-fn a_table_of_several_blocks(rt: HostRuntime) -> Result<(), Fail> {
+fn what_a_builder_tells(rt: HostRuntime) -> Result<(), Fail> {
     let alloc = rt.alloc();
-    let mut rows = Vec::new(alloc);
-    for key in [b"a", b"b", b"c"] {
-        rows.push(put(alloc, 2, key, 3000).ok().ok_or("memory")?)?;
+    let rows = puts(alloc, b"abc", 3000)?;
+    let mut builder = Builder::new(alloc, 1, 1)?;
+    for row in rows.as_slice() {
+        added(alloc, &mut builder, row)?;
     }
-    let (mut disk, size) = stored(alloc, 9, rows.as_slice())?;
-    let table = open_table(alloc, &mut disk, 7, size).ok().ok_or("open")?;
+    // Two rows and a check of 4 bytes were given, and a row is left.
+    assert_eq!(rt; builder.blocks(), 1);
+    assert_eq!(rt; builder.size(), 6040);
+    assert_eq!(rt; builder.open_size(), 3018);
+    Ok(())
+}
+
+#[test]
+fn a_table_of_two_blocks(rt: HostRuntime) -> Result<(), Fail> {
+    let alloc = rt.alloc();
+    let (mut disk, table) = two_blocks(alloc)?;
     assert_eq!(rt; table.blocks(), 2);
-    for (i, rows) in [(0, 2), (1, 1)] {
-        if i < table.blocks() {
-            let block = table.block(alloc, &mut disk, i).ok().ok_or("block")?;
-            assert_eq!(rt; block.len(), rows);
-        }
-    }
-    for (key, size) in [
-        (b"a".as_slice(), Some(3000)),
-        (b"b", Some(3000)),
-        (b"bb", None),
-        (b"c", Some(3000)),
-        (b"d", None),
-    ] {
-        assert_eq!(rt; size_of_value(alloc, &mut disk, &table, key)?, size);
+    if 1 < table.blocks() {
+        let rows = table.block(alloc, &mut disk, 1)?;
+        assert_eq!(rt; rows.len(), 1);
     }
     Ok(())
 }
 
 #[test]
-fn what_is_no_table(rt: HostRuntime) -> Result<(), Fail> {
+fn gets_of_a_table(rt: HostRuntime) -> Result<(), Fail> {
     let alloc = rt.alloc();
-    laws::tables_open();
-    laws::blocks_are_spelled();
-    laws::indexes_are_spelled();
-    laws::footers_are_spelled();
-    let mut disk = file_of(alloc, &TABLE)?;
-    for (number, size, fault) in [
-        (7, 51, TableFault::BadShape { at: 0 }),
-        (7, 93, TableFault::BadShape { at: 45 }),
-        (8, 92, TableFault::Absent),
-    ] {
-        match open_table(alloc, &mut disk, number, size) {
-            Ok(_) => assert!(rt; false, "no table"),
-            Err(error) => assert_eq!(rt; error, fault),
-        }
+    let (mut disk, table) = two_blocks(alloc)?;
+    assert_eq!(rt; size_of_value(alloc, &mut disk, &table, b"b")?, Some(3000));
+    assert_eq!(rt; size_of_value(alloc, &mut disk, &table, b"bb")?, None);
+    assert_eq!(rt; size_of_value(alloc, &mut disk, &table, b"d")?, None);
+    Ok(())
+}
+
+#[test]
+fn where_a_scan_begins(rt: HostRuntime) -> Result<(), Fail> {
+    let alloc = rt.alloc();
+    let (_disk, table) = two_blocks(alloc)?;
+    assert_eq!(rt; table.first_block(b""), 0);
+    assert_eq!(rt; table.first_block(b"b"), 0);
+    assert_eq!(rt; table.first_block(b"bb"), 1);
+    assert_eq!(rt; table.first_block(b"d"), 2);
+    Ok(())
+}
+
+#[test]
+fn an_absent_table(rt: HostRuntime) -> Result<(), Fail> {
+    let alloc = rt.alloc();
+    let mut disk = device(Bytes::from_slice(alloc, &TABLE)?);
+    match open_table(alloc, &mut disk, 8, 92) {
+        Ok(_) => assert!(rt; false, "no table"),
+        Err(fault) => assert_eq!(rt; fault, TableFault::Absent),
     }
-    // A changed byte of the index, and one of the footer.
-    for changed in [30, 60] {
-        let mut wrong = Vec::from_slice(alloc, &TABLE)?;
-        if let Some(byte) = wrong.get_mut(changed) {
-            *byte = 9;
-        }
-        let mut disk = file_of(alloc, wrong.as_slice())?;
-        match open_table(alloc, &mut disk, 7, 92) {
-            Err(TableFault::BadCheck { stored, computed }) => assert!(rt; stored != computed),
-            _ => assert!(rt; false, "a bad check"),
-        }
+    Ok(())
+}
+
+#[test]
+fn a_changed_byte_of_the_index(rt: HostRuntime) -> Result<(), Fail> {
+    let alloc = rt.alloc();
+    let mut wrong = Vec::from_slice(alloc, &TABLE)?;
+    if let Some(byte) = wrong.get_mut(30) {
+        *byte = 9;
+    }
+    match open_bytes(alloc, wrong.as_slice()) {
+        Err(TableFault::BadCheck { stored, computed }) => assert!(rt; stored != computed),
+        _ => assert!(rt; false, "a bad check"),
     }
     Ok(())
 }
@@ -201,18 +209,22 @@ fn what_is_no_table(rt: HostRuntime) -> Result<(), Fail> {
 #[test]
 fn a_table_in_memory(rt: HostRuntime) -> Result<(), Fail> {
     let alloc = rt.alloc();
-    let (footer, entries) = open_bytes(alloc, &TABLE).ok().ok_or("open")?;
-    assert_eq!(rt; (footer.rows, footer.first, footer.last), (1, 1, 1));
-    assert_eq!(rt; entries.len(), 1);
+    let (footer, entries) = open_bytes(alloc, &TABLE)?;
+    assert_eq!(rt; footer.rows, 1);
     for entry in entries.as_slice() {
-        let rows = block_in(alloc, &TABLE, b"", entry).ok().ok_or("block")?;
+        let rows = block_in(alloc, &TABLE, b"", entry)?;
         assert_eq!(rt; rows.len(), 1);
     }
-    assert!(rt;
-        matches!(
-            open_bytes(alloc, &TABLE[..51]),
-            Err(TableFault::BadShape { at: 0 })
-        )
-    );
     Ok(())
+}
+
+#[test]
+fn the_laws_hold() {
+    laws::tables_open();
+    laws::blocks_are_spelled();
+    laws::indexes_are_spelled();
+    laws::footers_are_spelled();
+    laws::blocks_ascend();
+    laws::one_row_size();
+    laws::tables_are_small();
 }

@@ -9,13 +9,13 @@ use Rattle.keel_table.proofs.opening.open_table.Goals as goal
 
 pub returns-in-Ok-read_entries-clause-answer : goal.returns-in-Ok-read_entries-clause-answer
 returns-in-Ok-read_entries-clause-answer g c = λ le.
-    opened_ok shown c.args.size c.args.number (g.D.Disk.told c.args.disk.now) c.in-Ok.footer c.in-Ok-read_entries.entries _ le refl c.in-Ok.ensures.answer
-    (subst (λ (t : Option Told). Answers (λ (es : List IndexEntry). es) (entries_found c.in-Ok.footer) c.args.number t (Ok c.in-Ok-read_entries.entries)) c.in-Ok.ensures.same c.in-Ok-read_entries.ensures.answer)
+    opened_ok shown c.args.size c.args.number (g.D.Disk.seen c.args.disk.now).told c.in-Ok.footer c.in-Ok-read_entries.entries _ le refl c.in-Ok.ensures.answer
+    (subst (λ (t : Option Told). Answers (λ (es : List IndexEntry). es) (entries_found c.in-Ok.footer) c.args.number t (Ok c.in-Ok-read_entries.entries)) c.in-Ok.ensures.quiet.same c.in-Ok-read_entries.ensures.answer)
 
 pub returns-in-Err-read_entries-clause-answer : goal.returns-in-Err-read_entries-clause-answer
 returns-in-Err-read_entries-clause-answer g c = λ le.
-    opened_no_entries shown c.args.size c.args.number (g.D.Disk.told c.args.disk.now) c.in-Ok.footer c.in-Err-read_entries.fault le c.in-Ok.ensures.answer
-    (subst (λ (t : Option Told). Answers {A = List IndexEntry} (λ (es : List IndexEntry). es) (entries_found c.in-Ok.footer) c.args.number t (Err c.in-Err-read_entries.fault)) c.in-Ok.ensures.same c.in-Err-read_entries.ensures.answer)
+    opened_no_entries shown c.args.size c.args.number (g.D.Disk.seen c.args.disk.now).told c.in-Ok.footer c.in-Err-read_entries.fault le c.in-Ok.ensures.answer
+    (subst (λ (t : Option Told). Answers {A = List IndexEntry} (λ (es : List IndexEntry). es) (entries_found c.in-Ok.footer) c.args.number t (Err c.in-Err-read_entries.fault)) c.in-Ok.ensures.quiet.same c.in-Err-read_entries.ensures.answer)
 
 pub returns-in-Err-clause-answer : goal.returns-in-Err-clause-answer
-returns-in-Err-clause-answer g c = λ le. opened_no_footer shown c.args.size c.args.number (g.D.Disk.told c.args.disk.now) c.in-Err.fault le c.in-Err.ensures.answer
+returns-in-Err-clause-answer g c = λ le. opened_no_footer shown c.args.size c.args.number (g.D.Disk.seen c.args.disk.now).told c.in-Err.fault le c.in-Err.ensures.answer
