@@ -144,14 +144,6 @@ some_is x y e = cc
 none_is : {A : Type 0} (x : A) → found x ≡ (let none : Option A = None in none) → ⊥
 none_is x e = cc
 
-last_behind : (n : ℕ) (first : Row) (rows : List Row) (row : Row) → n ≡ length rows → found row ≡ slice_get (first ∷ rows) n → row.key ≡ last_key first.key rows
-last_behind n first [] row is e = ap (λ (r : Row). r.key) (some_is row first (e ∙ ap (slice_get (first ∷ [])) is))
-last_behind n first (next ∷ rows) row is e = last_behind (length rows) next rows row refl (e ∙ ap (slice_get (first ∷ next ∷ rows)) is)
-
-pub last_row : (before : List ℕ) (rows : List Row) (row : Row) → found row ≡ slice_get rows (length rows - 1) → row.key ≡ last_key before rows
-last_row before [] row e = absurd (none_is row e)
-last_row before (first ∷ rows) row e = last_behind (length rows) first rows row refl (e ∙ ap (slice_get (first ∷ rows)) (omega arith))
-
 last_entry_behind : (n : ℕ) (first : IndexEntry) (entries : List IndexEntry) (e : IndexEntry) → n ≡ length entries → found e ≡ slice_get (first ∷ entries) n → last_of (Some first.last) entries ≡ Some e.last
 last_entry_behind n first [] e is h = ap (λ (x : IndexEntry). Some x.last) (sym (some_is e first (h ∙ ap (slice_get (first ∷ [])) is)))
 last_entry_behind n first (next ∷ entries) e is h = last_entry_behind (length entries) next entries e refl (h ∙ ap (slice_get (first ∷ next ∷ entries)) is)

@@ -1,6 +1,6 @@
 -- How large tables are.
-use Rattle.std.proofs.Common.{◌≡◌, ℕ, ◌+◌, ◌*◌, ◌^◌, ◌<◌, ◌≤◌, List, [], ◌∷◌, ◌++◌, length, true, Option, Some, None, refl, sym, ap, subst, ◌∙◌, arith}
-use Rattle.std.specs.Prelude.{◌&&◌}
+use Rattle.std.proofs.Common.{◌≡◌, ℕ, ◌+◌, ◌*◌, ◌^◌, ◌<◌, ◌≤◌, List, [], ◌∷◌, ◌++◌, length, true, leb, Option, Some, None, Result, Ok, refl, sym, ap, subst, ◌∙◌, arith}
+use Rattle.std.proofs.lemmas.Bool.{eqb-true, and_parts}
 use Rattle.std.specs.List.{flat_map, AllByRecursion}
 use Rattle.std.proofs.lemmas.List.{length-append, append-nil}
 use Rattle.keel_base.specs.declared.row.Row.{Row}
@@ -9,10 +9,15 @@ use Rattle.keel_table.specs.declared.index.IndexEntry.{IndexEntry}
 use Rattle.keel_table.specs.declared.index.Footer.{Footer}
 use Rattle.keel_base.specs.Rows.{most_value, IsRow}
 use Rattle.keel_table.specs.Spelling.{number, count, row_bytes, rows_bytes, IsBlock, AreBlocks, rows_of, checked, block_bytes, blocks_bytes, entry_bytes, IsEntry, entry_of, entries_from, index_bytes, footer_body, footer_bytes, footer_of, table_bytes, IsTableOf}
-use Rattle.keel_table.specs.Sizes.{OneRowSize, TablesAreSmall}
+use Rattle.keel_disk.specs.Image.{AreBytes}
+use Rattle.keel_table.specs.Fields.{entry_fits, in_order}
+use Rattle.keel_table.specs.Opening.{Damage, and_then, footer_found, entries_found, Opened, opened_with, opened}
+use Rattle.keel_table.specs.Laws.{AreWhole, IsIndexAt, IsFooterAt}
+use Rattle.keel_table.specs.Sizes.{OneRowSize, TablesAreSmall, FilesAreSmall}
 use Rattle.keel_table.proofs.Lengths.{length-number, length-count, length-row, length-checked}
 use Rattle.keel_table.proofs.Adding.{flat-one}
 use Rattle.keel_table.proofs.Reread.{rows_long, length-footer}
+use Rattle.keel_table.proofs.Spelled.{needs_ok, then_ok, blocks_spelled, indexes_spelled, footers_spelled}
 use Rattle.keel_table.proofs.Opens.{are_blocks, all_parts, end_row, most}
 
 length-entry : (e : IndexEntry) → length (entry_bytes e) ≡ 16 + length e.last
@@ -117,3 +122,61 @@ tables_are_small first last rows bytes table =
     let spelled : length bytes ≡ length (table_bytes first last blocks) = ap length table.spelled in
     let joined : length rows ≡ length (rows_of blocks) = ap length table.joined in
     (omega (arith, most_bytes, counted, index, spelled, length-table first last blocks), omega (arith, joined, rows_most blocks, most_bytes, counted, index))
+
+-- ---- files that open
+
+-- the blocks of entries end no farther behind than their sizes tell
+index_most : (index place : ℕ) (before : Option (List ℕ)) (entries : List IndexEntry) → AllByRecursion IsEntry entries → in_order index place before entries ≡ true → index ≤ place + 4294967299 * length entries
+index_most index place before [] each follow =
+    let there : place ≡ index = eqb-true place index follow in
+    omega (arith, there)
+index_most index place before (e ∷ entries) each follow =
+    let fits = and_parts (entry_fits index place before e) (in_order index (place + (e.size + 4)) (Some e.last) entries) follow in
+    let behind : index ≤ place + (e.size + 4) + 4294967299 * length entries = index_most index (place + (e.size + 4)) (Some e.last) entries each.1 fits.1 in
+    let size : e.size < 2 ^ 32 = each.0.size in
+    omega (arith, behind, size)
+
+entries_least : (entries : List IndexEntry) → 16 * length entries ≤ length (flat_map entry_bytes entries)
+entries_least [] = omega arith
+entries_least (e ∷ entries) = omega (arith, entries_least entries, length-append (entry_bytes e) (flat_map entry_bytes entries), length-entry e)
+
+-- the rows of blocks that are whole, each of which has a byte at least
+rows_within : (index place : ℕ) (over : Option (List ℕ)) (before bytes : List ℕ) (entries : List IndexEntry) (blocks : List (List Row)) → AreBytes bytes → in_order index place over entries ≡ true
+    → AreWhole bytes before entries blocks → place + length (rows_of blocks) ≤ index
+rows_within index place over before bytes [] [] are follow whole =
+    let there : place ≡ index = eqb-true place index follow in
+    omega (arith, there)
+rows_within index place over before bytes (e ∷ entries) [] are follow whole = absurd whole
+rows_within index place over before bytes [] (block ∷ blocks) are follow whole = absurd whole
+rows_within index place over before bytes (e ∷ entries) (block ∷ blocks) are follow whole =
+    let fits = and_parts (entry_fits index place over e) (in_order index (place + (e.size + 4)) (Some e.last) entries) follow in
+    let behind : place + (e.size + 4) + length (rows_of blocks) ≤ index = rows_within index (place + (e.size + 4)) (Some e.last) e.last bytes entries blocks are fits.1 whole.1 in
+    let sized : length (rows_bytes block) ≡ e.size = ((blocks_spelled before e bytes block are).0 whole.0).sized in
+    omega (arith, behind, sized, rows_long block, length-append block (rows_of blocks))
+
+small : (size : ℕ) (bytes : List ℕ) (f : Footer) (entries : List IndexEntry) → AreBytes bytes → IsFooterAt size bytes f → IsIndexAt f bytes entries
+    → (size < 2 ^ 61) × ((blocks : List (List Row)) → AreWhole bytes [] entries blocks → length (rows_of blocks) ≤ size)
+small size bytes f entries are footer index =
+    let most_places : f.index ≤ 0 + 4294967299 * length entries = index_most f.index 0 None entries index.each index.follow in
+    let least : 16 * length entries ≤ length (flat_map entry_bytes entries) = entries_least entries in
+    let sized : length (flat_map entry_bytes entries) ≡ f.size = index.sized in
+    let whole_size : f.index + (f.size + 52) ≡ size = footer.whole in
+    let fits : f.size < 2 ^ 32 = footer.fits.size in (
+      omega (arith, most_places, least, sized, whole_size, fits),
+      λ blocks whole.
+      let within : 0 + length (rows_of blocks) ≤ f.index = rows_within f.index 0 None [] bytes entries blocks are index.follow whole in
+      omega (arith, within, whole_size),
+    )
+
+opened_is : (f : Footer) (entries : List IndexEntry) (o : Opened) → (let found : Result Opened Damage = Ok (opened_with f entries) in found) ≡ Ok o → opened_with f entries ≡ o
+opened_is f entries o e = cc
+
+pub files_are_small : FilesAreSmall
+unfolding opened
+files_are_small size bytes o are e =
+    let found = needs_ok (leb 52 size) 0 (and_then (footer_found size bytes) (λ f. and_then (entries_found f bytes) (λ entries. Ok (opened_with f entries)))) o e in
+    let f = then_ok (footer_found size bytes) (λ f. and_then (entries_found f bytes) (λ entries. Ok (opened_with f entries))) o found.1 in
+    let entries = then_ok (entries_found f.0 bytes) (λ entries. Ok (opened_with f.0 entries)) o f.2 in
+    let is : opened_with f.0 entries.0 ≡ o = opened_is f.0 entries.0 o entries.2 in
+    subst (λ (x : Opened). (size < 2 ^ 61) × ((blocks : List (List Row)) → AreWhole bytes [] x.entries blocks → length (rows_of blocks) ≤ size)) is
+    (small size bytes f.0 entries.0 are ((footers_spelled size bytes f.0 are).0 f.1) ((indexes_spelled f.0 bytes entries.0 are).0 entries.1))

@@ -47,11 +47,11 @@ found x = Ok x
 found_is : {A : Type 0} (x y : A) → found x ≡ found y → x ≡ y
 found_is x y e = cc
 
-then_ok : {A B : Type 0} (r : Result A Damage) (next : A → Result B Damage) (y : B) → and_then r next ≡ Ok y → (x : A) × (r ≡ Ok x) × (next x ≡ Ok y)
+pub then_ok : {A B : Type 0} (r : Result A Damage) (next : A → Result B Damage) (y : B) → and_then r next ≡ Ok y → (x : A) × (r ≡ Ok x) × (next x ≡ Ok y)
 then_ok (Ok x) next y e = (x, refl, e)
 then_ok (Err damage) next y e = absurd cc
 
-needs_ok : {A : Type 0} (test : Bool) (at : ℕ) (next : Result A Damage) (x : A) → needs test at next ≡ Ok x → (test ≡ true) × (next ≡ Ok x)
+pub needs_ok : {A : Type 0} (test : Bool) (at : ℕ) (next : Result A Damage) (x : A) → needs test at next ≡ Ok x → (test ≡ true) × (next ≡ Ok x)
 needs_ok true at next x e = (refl, e)
 needs_ok false at next x e = absurd cc
 

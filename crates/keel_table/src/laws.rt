@@ -1,7 +1,7 @@
 //! Laws of the format, each as the contract of a function.
 ghost use Rattle.keel_table.specs.Blocks.{BlocksAscend};
 ghost use Rattle.keel_table.specs.Laws.{TablesOpen, BlocksAreSpelled, IndexesAreSpelled, FootersAreSpelled};
-ghost use Rattle.keel_table.specs.Sizes.{OneRowSize, TablesAreSmall};
+ghost use Rattle.keel_table.specs.Sizes.{OneRowSize, TablesAreSmall, FilesAreSmall};
 
 /// The file of a table opens as the table of its rows: each block gives its rows, and a get the row of its key.
 pub fn tables_open()
@@ -36,4 +36,9 @@ pub fn one_row_size()
 /// A table that a builder makes has at most 2^56 bytes, and as many rows: the most that a manifest can tell.
 pub fn tables_are_small()
     ensures { TablesAreSmall }
+{}
+
+/// A file that opens as a table has less than 2^61 bytes, and no more rows than bytes.
+pub fn files_are_small()
+    ensures { FilesAreSmall }
 {}

@@ -227,4 +227,5 @@ fn the_laws_hold() {
     laws::blocks_ascend();
     laws::one_row_size();
     laws::tables_are_small();
+    laws::files_are_small();
 }
