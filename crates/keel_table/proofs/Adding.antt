@@ -10,7 +10,7 @@ use Rattle.keel_table.specs.declared.index.Footer.{Footer}
 use Rattle.keel_table.specs.declared.builder.Builder.{Builder}
 use Rattle.keel_base.specs.Rows.{IsRow}
 use Rattle.keel_table.specs.Spelling.{Ascend, last_key, row_bytes, rows_bytes, IsBlock, IsClosed, AreBlocks, rows_of, checked, block_bytes, blocks_bytes, entry_bytes, entry_of, entries_from, index_bytes, footer_bytes, footer_of, FooterFits, IsTableOf}
-use Rattle.keel_table.specs.Building.{IsBuilding, closed_by, footer_behind}
+use Rattle.keel_table.specs.Building.{IsBuilding, IsTableIn, closed_by, footer_behind}
 use Rattle.keel_table.proofs.Lengths.{length-row, length-checked}
 
 -- ---- lists with an element more
@@ -174,13 +174,13 @@ footer_same f g a b c d e h = λ i. record { index = a i; size = b i; blocks = c
 
 -- no rows are left
 pub ends_closed : (first last : ℕ) (rows : List Row) (given : List ℕ) (b : Builder) (end : List ℕ) → IsBuilding first last rows given b → length b.open_rows ≡ 0
-    → end ≡ checked b.index ++ footer_bytes (footer_behind b.index b.place b.blocks b) → FooterFits (footer_behind b.index b.place b.blocks b) → IsTableOf first last rows (given ++ ([] ++ end))
+    → end ≡ checked b.index ++ footer_bytes (footer_behind b.index b.place b.blocks b) → FooterFits (footer_behind b.index b.place b.blocks b) → IsTableIn (b.blocks + 0) first last rows (given ++ ([] ++ end))
 ends_closed first last rows given b end h none ends fits =
     let nothing : h.rest ≡ [] = none_left h.rest (nil_from_length (rows_bytes h.rest) (ap length (sym h.open_is) ∙ none)) in
     let joined : rows ≡ rows_of h.closed = h.joined ∙ ap (λ (rs : List Row). rows_of h.closed ++ rs) nothing ∙ append-nil (rows_of h.closed) in
     let footer : footer_behind b.index b.place b.blocks b ≡ footer_of first last h.closed =
     footer_same (footer_behind b.index b.place b.blocks b) (footer_of first last h.closed) (h.place_is ∙ ap length h.given_is) (ap length h.index_is) h.blocks_is (h.rows_is ∙ ap length joined) h.first_is h.last_is in
-    record {
+    let table : IsTableOf first last rows (given ++ ([] ++ end)) = record {
       each = h.each;
       rise = h.rise;
       blocks = h.closed;
@@ -189,13 +189,13 @@ ends_closed first last rows given b end h none ends fits =
       fits = subst FooterFits footer fits;
       spelled = ap (λ (e : List ℕ). given ++ e) (ends ∙ ap (λ (i : List ℕ). checked i ++ footer_bytes (footer_behind b.index b.place b.blocks b)) h.index_is ∙ ap (λ (f : Footer). checked (index_bytes h.closed) ++ footer_bytes f) footer)
           ∙ ap (λ (g : List ℕ). g ++ (checked (index_bytes h.closed) ++ footer_bytes (footer_of first last h.closed))) h.given_is;
-    }
+    } in (table, omega (arith, h.blocks_is))
 
 -- a last block is left
 pub ends_open : (first last : ℕ) (rows : List Row) (given : List ℕ) (b : Builder) (block entry index end : List ℕ) (place blocks : ℕ) → IsBuilding first last rows given b → 0 < length b.open_rows
     → block ≡ checked b.open_rows → entry ≡ entry_bytes (record { place = b.place; size = length b.open_rows; last = b.last_key }) → index ≡ b.index ++ entry
     → place ≡ b.place + (length b.open_rows + 4) → blocks ≡ b.blocks + 1 → end ≡ checked index ++ footer_bytes (footer_behind index place blocks b) → FooterFits (footer_behind index place blocks b)
-    → IsTableOf first last rows (given ++ (block ++ end))
+    → IsTableIn (b.blocks + 1) first last rows (given ++ (block ++ end))
 ends_open first last rows given b block entry index end place blocks h some blocked entered indexed placed counted ends fits =
     let last_one : IsBlock h.rest = last_block h.rest (length b.open_rows) (ap length (sym h.open_is)) some (omega (arith, h.short, ap length h.open_is)) in
     let all : List (List Row) = h.closed ++ h.rest ∷ [] in
@@ -209,7 +209,8 @@ ends_open first last rows given b block entry index end place blocks h some bloc
     let place_is : place ≡ length (blocks_bytes all) = omega (arith, placed, h.place_is, ap length given_is, length-append given block, ap length blocked, length-checked b.open_rows) in
     let footer : footer_behind index place blocks b ≡ footer_of first last all =
     footer_same (footer_behind index place blocks b) (footer_of first last all) place_is (ap length index_is) (omega (arith, counted, h.blocks_is, length-more h.closed h.rest)) (h.rows_is ∙ ap length joined) h.first_is h.last_is in
-    record {
+    let many : length all ≡ b.blocks + 1 = omega (arith, h.blocks_is, length-more h.closed h.rest) in
+    let table : IsTableOf first last rows (given ++ (block ++ end)) = record {
       each = h.each;
       rise = h.rise;
       blocks = all;
@@ -218,4 +219,4 @@ ends_open first last rows given b block entry index end place blocks h some bloc
       fits = subst FooterFits footer fits;
       spelled = sym (append_assoc given block end) ∙ ap (λ (g : List ℕ). g ++ end) given_is
           ∙ ap (λ (e : List ℕ). blocks_bytes all ++ e) (ends ∙ ap (λ (i : List ℕ). checked i ++ footer_bytes (footer_behind index place blocks b)) index_is ∙ ap (λ (f : Footer). checked (index_bytes all) ++ footer_bytes f) footer);
-    }
+    } in (table, many)

@@ -3,7 +3,7 @@ use Rattle.std.specs.Prelude.{◌≡◌, ℕ, ◌+◌, ◌<◌, ◌==◌, List, 
 use Rattle.std.specs.List.{AllByRecursion}
 use Rattle.keel_base.specs.declared.row.Row.{Row}
 use Rattle.keel_base.specs.Rows.{IsRow}
-use Rattle.keel_table.specs.Spelling.{Ascend, last_key, rows_bytes, IsClosed, rows_of, checked, blocks_bytes, index_bytes, entry_bytes}
+use Rattle.keel_table.specs.Spelling.{Ascend, last_key, rows_bytes, IsClosed, rows_of, checked, blocks_bytes, index_bytes, entry_bytes, IsTableOf}
 use Rattle.keel_table.specs.declared.index.Footer.{Footer}
 use Rattle.keel_table.specs.declared.builder.Builder.{Builder}
 use Rattle.keel_table.specs.declared.builder.Pieces.{Pieces}
@@ -70,6 +70,10 @@ last_block rows = if length rows == 0 then None else Some (checked rows)
 -- the bytes of a piece, where there is one
 abbrev pub piece_bytes : Option (List ℕ) → List ℕ
 piece_bytes piece = unwrap_or piece []
+
+-- the bytes are the table of the rows, in so many blocks
+abbrev pub IsTableIn : ℕ → ℕ → ℕ → List Row → List ℕ → Type 0
+IsTableIn blocks first last rows bytes = (table : IsTableOf first last rows bytes) × (length table.blocks ≡ blocks)
 
 -- the bytes of the pieces at the end
 abbrev pub pieces_bytes : Pieces → List ℕ

@@ -83,7 +83,7 @@ struct Closing {
 }
 
 impl Builder {
-    ghost use Rattle.keel_table.specs.Building.{IsBuilding, blocks_given, bytes_given, closed_by, footer_behind, key_before, last_block, left_over, piece_bytes, pieces_bytes, pieces_of};
+    ghost use Rattle.keel_table.specs.Building.{IsBuilding, IsTableIn, blocks_given, bytes_given, closed_by, footer_behind, key_before, last_block, left_over, piece_bytes, pieces_bytes, pieces_of};
     ghost use Rattle.keel_table.specs.Spelling.{IsTableOf};
 
     /// A table of rows whose sequence numbers are from `first` to `last`.
@@ -247,6 +247,8 @@ impl Builder {
     fn pieces(&self, alloc: Global) -> Result<Pieces, OutOfMemory>
         ensures table { IfOk result (λ pieces. (first last : ℕ) (rows : List ARow) (given : List ℕ) → IsBuilding first last rows given self.now
             → IsTableOf first last rows (given ++ pieces_bytes pieces)) }
+        ensures blocks { IfOk result (λ pieces. (first last : ℕ) (rows : List ARow) (given : List ℕ) → IsBuilding first last rows given self.now
+            → IsTableIn (blocks_given self.now + pieces_of pieces.block) first last rows (given ++ pieces_bytes pieces)) }
         ensures parts { IfOk result (λ pieces. pieces.block ≡ last_block (left_over self.now)) }
     {
         if self.open_rows.len() == 0 {
@@ -267,11 +269,14 @@ impl Builder {
         })
     }
 
-    /// Ends the table: the pieces behind those that `add` gave. For want of memory, the one refusal, the builder is
-    /// handed back as it was.
+    /// Ends the table: the pieces behind those that `add` gave, a block where rows are left, and the end. So the pieces
+    /// are one more than the table has blocks. For want of memory, the one refusal, the builder is handed back as it
+    /// was.
     pub fn finish(self, alloc: Global) -> Result<Pieces, FinishRefused>
         ensures ok { IfOk result (λ pieces. (first last : ℕ) (rows : List ARow) (given : List ℕ) → IsBuilding first last rows given self
             → IsTableOf first last rows (given ++ pieces_bytes pieces)) }
+        ensures blocks { IfOk result (λ pieces. (first last : ℕ) (rows : List ARow) (given : List ℕ) → IsBuilding first last rows given self
+            → IsTableIn (blocks_given self + pieces_of pieces.block) first last rows (given ++ pieces_bytes pieces)) }
         ensures parts { IfOk result (λ pieces. pieces.block ≡ last_block (left_over self)) }
         ensures err { IfErr result (λ refused. refused.builder ≡ self) }
     {
