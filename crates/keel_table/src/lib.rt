@@ -17,13 +17,18 @@
 //!
 //! What is promised:
 //!
-//! - The pieces of a builder, one behind the other, are the table of its rows: `IsTableOf` of `specs/Spelling`.
+//! - The pieces of a builder, one behind the other, are the table of its rows: `IsTableOf` of `specs/Spelling`. Each
+//!   block is one, and the index and the footer are one. A builder tells how many it gave, and their bytes.
 //! - What opening, a block and a `get` answer is what `opened`, `block_found` and `row_found` of `specs/Opening` say of
 //!   the file's bytes, with the place of the first thing that is wrong. Where a file isn't there, they say so.
+//! - Over any device, one that tells nothing too, the rows of a block are rows, and rise up to the key that the index
+//!   tells: `FitEntry` of `specs/Blocks`. So the blocks of a table can be merged or copied as they are read.
+//! - All rows of the blocks before `first_block` are below its key.
 //! - `open_bytes` and `block_in` answer the same of a table whose bytes are in memory.
 //! - A device's fault is handed on only where the device counted it. Want of memory changes nothing.
-//! - `laws`: a table opens, with the entries of its blocks, and each block gives its rows; and what reads well as a
-//!   block, an index or a footer is what spells it.
+//! - `laws`: a table opens, with the entries of its blocks, and each block gives its rows; what reads well as a block,
+//!   an index or a footer is what spells it; blocks that are read in order have rows that ascend when they are joined;
+//!   and how large tables are.
 //!
 //! It stands on `keel_fields` for reading, on the checks of `keel_frag`, and on any device of `keel_disk`.
 #![tactic(auto)]
