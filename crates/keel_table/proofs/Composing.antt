@@ -1,5 +1,5 @@
 -- What several steps of reading answer together.
-use Rattle.std.proofs.Common.{◌≡◌, ℕ, ◌≤◌, List, Option, Some, None, Result, Ok, Err, refl, sym, ap, ◌∙◌, arith}
+use Rattle.std.proofs.Common.{◌≡◌, ℕ, ◌≤◌, List, Option, Some, None, Result, Ok, Err, refl, sym, ap, ◌∙◌}
 use Rattle.std.proofs.lemmas.Bool.{le-leb}
 use Rattle.keel_disk.specs.Told.{Told}
 use Rattle.keel_base.specs.declared.file_name.FileName.TheVariants.{Table as TableName}

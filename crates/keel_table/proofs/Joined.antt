@@ -1,5 +1,5 @@
 -- The rows of blocks, joined in their order.
-use Rattle.std.proofs.Common.{◌≡◌, ℕ, zero, suc, true, take, refl, arith, List, [], ◌∷◌, ◌++◌, length, Option, Some, None, subst, sym}
+use Rattle.std.proofs.Common.{◌≡◌, ℕ, zero, suc, true, take, refl, arith, List, [], ◌∷◌, ◌++◌, length, subst, sym}
 use Rattle.std.specs.List.{AllByRecursion}
 use Rattle.keel_base.specs.declared.row.Row.{Row}
 use Rattle.keel_base.specs.Keys.{key_lt}
@@ -7,7 +7,7 @@ use Rattle.keel_table.specs.declared.index.IndexEntry.{IndexEntry}
 use Rattle.keel_base.specs.Rows.{IsRow}
 use Rattle.keel_table.specs.Spelling.{Ascend, last_key, rows_of}
 use Rattle.keel_table.specs.Opening.{nth_entry}
-use Rattle.keel_table.specs.Blocks.{FitEntry, FitCovering, FitEntries, IsBelow, BlocksAscend}
+use Rattle.keel_table.specs.Blocks.{FitCovering, FitEntries, IsBelow, BlocksAscend}
 use Rattle.keel_table.proofs.Searching.{AreBelow}
 use Rattle.keel_table.proofs.Opens.{below_last}
 

@@ -1,14 +1,13 @@
 -- How large tables are.
-use Rattle.std.proofs.Common.{◌≡◌, ℕ, ◌+◌, ◌*◌, ◌^◌, ◌<◌, ◌≤◌, List, [], ◌∷◌, ◌++◌, length, true, leb, Option, Some, None, Result, Ok, refl, sym, ap, subst, ◌∙◌, arith}
+use Rattle.std.proofs.Common.{◌≡◌, ℕ, ◌+◌, ◌*◌, ◌^◌, ◌<◌, ◌≤◌, List, [], ◌∷◌, ◌++◌, length, true, leb, Option, Some, None, Result, Ok, sym, ap, subst, ◌∙◌, arith}
 use Rattle.std.proofs.lemmas.Bool.{eqb-true, and_parts}
 use Rattle.std.specs.List.{flat_map, AllByRecursion}
 use Rattle.std.proofs.lemmas.List.{length-append, append-nil}
 use Rattle.keel_base.specs.declared.row.Row.{Row}
-use Rattle.keel_base.specs.declared.row.Kind.{Kind}
 use Rattle.keel_table.specs.declared.index.IndexEntry.{IndexEntry}
 use Rattle.keel_table.specs.declared.index.Footer.{Footer}
-use Rattle.keel_base.specs.Rows.{most_value, IsRow}
-use Rattle.keel_table.specs.Spelling.{number, count, row_bytes, rows_bytes, IsBlock, AreBlocks, rows_of, checked, block_bytes, blocks_bytes, entry_bytes, IsEntry, entry_of, entries_from, index_bytes, footer_body, footer_bytes, footer_of, table_bytes, IsTableOf}
+use Rattle.keel_base.specs.Rows.{IsRow}
+use Rattle.keel_table.specs.Spelling.{number, count, row_bytes, rows_bytes, IsBlock, rows_of, checked, block_bytes, blocks_bytes, entry_bytes, IsEntry, entry_of, entries_from, index_bytes, footer_body, footer_bytes, footer_of, table_bytes}
 use Rattle.keel_disk.specs.Image.{AreBytes}
 use Rattle.keel_table.specs.Fields.{entry_fits, in_order}
 use Rattle.keel_table.specs.Opening.{Damage, and_then, footer_found, entries_found, Opened, opened_with, opened}
@@ -56,8 +55,8 @@ one_block row [] cut e = absurd (let l : 1 ≡ 0 = ap length e in omega (arith, 
 one_block row (block ∷ []) cut e = ap (λ (b : List Row). b ∷ []) (sym (e ∙ append-nil block))
 one_block row (block ∷ next ∷ blocks) cut e =
     absurd (
-      let l : 1 ≡ length (block ++ (next ++ rows_of blocks)) = ap length e in
-      omega (arith, l, length-append block (next ++ rows_of blocks), length-append next (rows_of blocks), has_row block cut.0, has_row next cut.1.0)
+    let l : 1 ≡ length (block ++ (next ++ rows_of blocks)) = ap length e in
+    omega (arith, l, length-append block (next ++ rows_of blocks), length-append next (rows_of blocks), has_row block cut.0, has_row next cut.1.0)
     )
 
 one_bytes : (row : Row) → length (blocks_bytes ((row ∷ []) ∷ [])) ≡ 21 + length row.key + length row.value
@@ -164,8 +163,8 @@ small size bytes f entries are footer index =
     let fits : f.size < 2 ^ 32 = footer.fits.size in (
       omega (arith, most_places, least, sized, whole_size, fits),
       λ blocks whole.
-      let within : 0 + length (rows_of blocks) ≤ f.index = rows_within f.index 0 None [] bytes entries blocks are index.follow whole in
-      omega (arith, within, whole_size),
+          let within : 0 + length (rows_of blocks) ≤ f.index = rows_within f.index 0 None [] bytes entries blocks are index.follow whole in
+          omega (arith, within, whole_size),
     )
 
 opened_is : (f : Footer) (entries : List IndexEntry) (o : Opened) → (let found : Result Opened Damage = Ok (opened_with f entries) in found) ≡ Ok o → opened_with f entries ≡ o

@@ -3,7 +3,6 @@ use Rattle.std.proofs.Common.{◌≡◌, ℕ, ◌+◌, ◌-◌, ◌<◌, ◌≤�
 use Rattle.std.specs.Prelude.{◌==◌, filter, find}
 use Rattle.std.proofs.lemmas.List.Elements.{filter-append}
 use Rattle.keel_base.specs.declared.row.Row.{Row}
-use Rattle.keel_base.specs.Keys.{key_eq}
 use Rattle.keel_fields.specs.declared.error.FieldError.{FieldError}
 use Rattle.keel_fields.specs.declared.error.FieldError.TheVariants as errors
 use Rattle.keel_fields.specs.Reading.{Fails}

@@ -33,6 +33,6 @@ FitEntries before (block ∷ blocks) (e ∷ es) = FitEntry before e block × Fit
 -- the blocks that were read, in order from the first, have rows that ascend when they are joined
 pub record BlocksAscend : Type 0 where
   pub more : (before : List ℕ) (blocks : List (List Row)) (entries : List IndexEntry) (block : List Row) → FitEntries before blocks entries
-    → FitCovering (nth_entry before entries (length blocks)) block → FitEntries before (blocks ++ block ∷ []) entries
+      → FitCovering (nth_entry before entries (length blocks)) block → FitEntries before (blocks ++ block ∷ []) entries
   pub each : (before : List ℕ) (blocks : List (List Row)) (entries : List IndexEntry) → FitEntries before blocks entries → AllByRecursion IsRow (rows_of blocks)
   pub rise : (before : List ℕ) (blocks : List (List Row)) (entries : List IndexEntry) → FitEntries before blocks entries → Ascend before (rows_of blocks)

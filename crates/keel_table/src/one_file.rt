@@ -54,7 +54,10 @@ impl Disk for OneFile {
         if !same_name(name, self.name) {
             return Err(ReadError::Absent);
         }
-        match Bytes::from_slice(alloc, part_at(self.bytes.as_slice(), place, u64::from(length))) {
+        match Bytes::from_slice(
+            alloc,
+            part_at(self.bytes.as_slice(), place, u64::from(length)),
+        ) {
             Ok(bytes) => Ok(bytes),
             Err(_) => Err(ReadError::OutOfMemory),
         }

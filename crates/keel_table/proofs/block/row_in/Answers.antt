@@ -1,5 +1,4 @@
-use Rattle.std.proofs.Common.{◌≡◌, Ok, ap, ◌∙◌, sym, Option, Result}
-use Rattle.keel_base.specs.declared.row.Row.{Row}
+use Rattle.std.proofs.Common.{ap, ◌∙◌, sym}
 use Rattle.keel_table.specs.Opening.{rows_in}
 use Rattle.keel_table.proofs.Walk.{row_found, one_asked, none_found}
 use Rattle.keel_table.proofs.block.row_in.Goals as goal

@@ -1,4 +1,4 @@
-use Rattle.std.proofs.Common.{rules, ◌≡◌, length}
+use Rattle.std.proofs.Common.{rules, length}
 use Rattle.std.proofs.lemmas.Result.{err_from_is_err_and}
 use Rattle.keel_table.specs.Walking.{key_asked}
 use Rattle.keel_table.proofs.Walk.{walk_begins, walk_goes_on, walk_done, walk_fails, walk_spent}

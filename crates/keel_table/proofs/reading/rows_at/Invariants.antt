@@ -1,4 +1,3 @@
-use Rattle.std.proofs.Common.{length}
 use Rattle.keel_table.specs.Walking.{key_asked}
 use Rattle.keel_table.proofs.Walk.{Walked}
 use Rattle.keel_table.proofs.reading.rows_at.Given as goal

@@ -1,4 +1,4 @@
-use Rattle.std.proofs.Common.{[], arith, ap, length}
+use Rattle.std.proofs.Common.{[]}
 use Rattle.keel_table.proofs.Joined.{rows_below}
 use Rattle.keel_table.proofs.table.Table.first_block.Goals as goal
 
