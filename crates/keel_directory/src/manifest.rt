@@ -51,8 +51,8 @@ pub(crate) fn current_manifest(alloc: Global, bytes: &[u8]) -> Result<u64, ReadE
 }
 
 /// The version behind a record, which has to be an edit that applies.
-fn behind_record(alloc: Global, version: &Version, found: &LogRecord) -> Result<Version, ReadError>
-    ensures { Answers (λ next. next) (λ answer. answer ≡ spec.next_version found.now.place (spec.behind_edit version.now (edit_of found.now.payload)) (λ next. Ok next)) result }
+fn behind_record(alloc: Global, version: Version, found: &LogRecord) -> Result<Version, ReadError>
+    ensures { Answers (λ next. next) (λ answer. answer ≡ spec.next_version found.now.place (spec.behind_edit version (edit_of found.now.payload)) (λ next. Ok next)) result }
 {
     let at = found.place;
     let edit = match decode(alloc, found.payload.as_slice()) {
@@ -60,7 +60,7 @@ fn behind_record(alloc: Global, version: &Version, found: &LogRecord) -> Result<
         Err(EditError::BadShape { .. }) => return Err(ReadError::DamagedManifest { at }),
         Err(EditError::OutOfMemory) => return Err(ReadError::OutOfMemory),
     };
-    match version.apply(alloc, &edit) {
+    match version.into_applied(alloc, &edit) {
         Ok(next) => Ok(next),
         Err(ApplyError::BadEdit { .. }) => Err(ReadError::DamagedManifest { at }),
         Err(ApplyError::OutOfMemory) => Err(ReadError::OutOfMemory),
@@ -78,7 +78,7 @@ fn behind_records(
     match records {
         [] => Ok(version),
         [found, rest @ ..] => {
-            let next = behind_record(alloc, &version, found)?;
+            let next = behind_record(alloc, version, found)?;
             behind_records(alloc, next, rest)
         }
     }
