@@ -1,7 +1,6 @@
 pub mod OneReading
 pub mod Needed
 pub mod Settled
-pub mod Naming
 pub mod Placing
 pub mod Mapping
 pub mod Sliced

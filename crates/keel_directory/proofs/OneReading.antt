@@ -1,20 +1,18 @@
 -- A directory has one reading.
 use Rattle.std.proofs.Common.{◌≡◌, ℕ, List, [], ◌∷◌, Option, Some, None, Result, Ok, Err, refl, sym, ap, subst, ◌∙◌}
-use Rattle.std.proofs.lemmas.List.{append_cancel_right}
 use Rattle.std.specs.FinMap.{same_map, slice_cmp-IsAntisymmetric, nat_cmp-IsAntisymmetric}
 use Rattle.std.specs.Cmp.Lexicographic.{nat_list_cmp_total}
 use Rattle.keel_base.specs.declared.row.Row.{Row}
 use Rattle.keel_base.specs.declared.file_name.FileName.TheVariants.{Manifest, Current}
-use Rattle.keel_base.specs.Name.{printed}
 use Rattle.keel_base.specs.Points.{Point, Values}
 use Rattle.keel_base.specs.Rows.{IsMapOf}
-use Rattle.keel_name.proofs.Spellings.{printed_injective}
+use Rattle.keel_name.proofs.Currents.{one_manifest}
 use Rattle.keel_disk.specs.Directory.{Named, find}
 use Rattle.keel_edit.specs.declared.edit.Added.{Added}
 use Rattle.keel_version.specs.Tables.{Contents}
 use Rattle.keel_reading.proofs.OneReading.{records_once}
 use Rattle.keel_directory.specs.Refusals.{Refusal}
-use Rattle.keel_directory.specs.Manifests.{Names, CurrentIs, ManifestIs, version_of}
+use Rattle.keel_directory.specs.Manifests.{CurrentIs, ManifestIs, version_of}
 use Rattle.keel_directory.specs.TableFiles.{TableFile, open_sized, Opens, AllOpen, TablesGive, refusal_of}
 use Rattle.keel_directory.specs.declared.logs.LogFile.{LogFile}
 use Rattle.keel_directory.specs.Replays.{ReadLog, AreRead, Replay, LogsAre, logs_from, replay}
@@ -55,19 +53,11 @@ version_one : (file : Option (List ℕ)) (a b : Result Contents Refusal) → Man
 version_one None a b h k = h ∙ sym k
 version_one (Some bytes) a b h k = h.3 ∙ ap version_of (records_once bytes h.0 k.0 h.1 k.1 h.2 k.2) ∙ sym k.3
 
-number_is : (m n : ℕ) → Manifest m ≡ Manifest n → m ≡ n
-number_is m n e = cc
-
-manifest_one : (bytes : List ℕ) (m n : ℕ) → Names bytes m → Names bytes n → m ≡ n
-manifest_one bytes m n h k =
-    let same = append_cancel_right (printed (Manifest m)) (printed (Manifest n)) (10 ∷ []) (sym h.0 ∙ k.0) in
-    number_is m n (printed_injective (Manifest m) (Manifest n) h.1 k.1 same)
-
 abbrev refuse : {A : Type 0} → Refusal → Result A Refusal
 refuse r = Err r
 
 current_one : (bytes : List ℕ) (a b : Result ℕ Refusal) → CurrentIs bytes a → CurrentIs bytes b → a ≡ b
-current_one bytes (Ok m) (Ok n) h k = ap (λ (x : ℕ). ok x) (manifest_one bytes m n h k)
+current_one bytes (Ok m) (Ok n) h k = ap (λ (x : ℕ). ok x) (one_manifest bytes m n h k)
 current_one bytes (Ok m) (Err r) h k = absurd (k.0 m h)
 current_one bytes (Err r) (Ok n) h k = absurd (h.0 n k)
 current_one bytes (Err r) (Err s) h k = ap (λ (x : Refusal). refuse x) (h.1 ∙ sym k.1)

@@ -1,9 +1,8 @@
 -- CURRENT, and the version that a manifest gives.
-use Rattle.std.specs.Prelude.{◌≡◌, ℕ, List, [], ◌∷◌, ◌++◌, take, Option, Some, None, Result, Ok, Err}
-use Rattle.keel_base.specs.declared.file_name.FileName.TheVariants.{Manifest}
-use Rattle.keel_base.specs.Name.{IsFileNumber, printed}
+use Rattle.std.specs.Prelude.{◌≡◌, ℕ, List, [], ◌∷◌, take, Option, Some, None, Result, Ok, Err}
 use Rattle.keel_frag.specs.declared.record.LogRecord.{LogRecord}
 use Rattle.keel_frag.specs.Reading.{AreRecords}
+use Rattle.keel_name.specs.Current.{NamesManifest}
 use Rattle.keel_edit.specs.declared.edit.Edit.{Edit}
 use Rattle.keel_edit.specs.Reading.{edit_of}
 use Rattle.keel_version.specs.Tables.{Contents, nothing}
@@ -12,14 +11,10 @@ use Rattle.keel_directory.specs.Refusals.{Refusal, bad_current, damaged_manifest
 
 -- ---- CURRENT
 
--- the bytes are a manifest's name and a newline
-abbrev pub Names : List ℕ → ℕ → Type 0
-Names bytes number = (bytes ≡ printed (Manifest number) ++ 10 ∷ []) × IsFileNumber number
-
 -- the manifest that CURRENT's bytes name, or the refusal with the first 64 of them
 abbrev pub CurrentIs : List ℕ → Result ℕ Refusal → Type 0
-CurrentIs bytes (Ok number) = Names bytes number
-CurrentIs bytes (Err refusal) = ((number : ℕ) → Names bytes number → ⊥) × (refusal ≡ bad_current (take 64 bytes))
+CurrentIs bytes (Ok number) = NamesManifest bytes number
+CurrentIs bytes (Err refusal) = ((number : ℕ) → NamesManifest bytes number → ⊥) × (refusal ≡ bad_current (take 64 bytes))
 
 -- ---- edits
 

@@ -1,31 +1,16 @@
 // CURRENT, and the version that a manifest gives.
-ghost use Rattle.std.specs.Prelude.{◌≡◌, ℕ, IfNone, IfSome, Ok, take, option_map};
+ghost use Rattle.std.specs.Prelude.{◌≡◌, Ok, take, option_map};
 ghost use Rattle.keel_edit.specs.Reading.{edit_of};
 ghost use Rattle.keel_directory.specs.Answers.{Answers};
 ghost use Rattle.keel_directory.specs.Manifests as spec;
 
 use crate::answer::ReadError;
-use keel_base::{Bytes, FileName};
+use keel_base::Bytes;
 use keel_edit::{EditError, decode};
 use keel_frag::{LogRecord, read_log};
-use keel_name::read;
+use keel_name::read_current;
 use keel_version::{ApplyError, Version};
 use std::alloc::Global;
-
-/// The number of the manifest that CURRENT's bytes name.
-fn named(bytes: &[u8]) -> Option<u64>
-    ensures named { IfSome result (λ number. spec.Names bytes.now number) }
-    ensures none { IfNone result ((number : ℕ) → spec.Names bytes.now number → ⊥) }
-{
-    let (newline, name) = bytes.split_last()?;
-    if *newline != b'\n' {
-        return None;
-    }
-    match read(name)? {
-        FileName::Manifest(number) => Some(number),
-        _ => None,
-    }
-}
 
 /// What begins some bytes, 64 of them where there are more.
 fn front(bytes: &[u8]) -> &[u8]
@@ -42,7 +27,7 @@ fn front(bytes: &[u8]) -> &[u8]
 pub(crate) fn current_manifest(alloc: Global, bytes: &[u8]) -> Result<u64, ReadError>
     ensures { Answers (λ number. number) (spec.CurrentIs bytes.now) result }
 {
-    match named(bytes) {
+    match read_current(bytes) {
         Some(number) => Ok(number),
         None => Err(ReadError::BadCurrent {
             bytes: Bytes::from_slice(alloc, front(bytes))?,
