@@ -26,6 +26,3 @@ mod writing;
 pub use opening::Refused;
 pub use store::Core;
 pub use trail::Trail;
-
-#[cfg(test)]
-mod tests;

@@ -21,6 +21,3 @@ mod trash;
 pub use entry::{Names, Retired};
 pub use step::DeleteStep;
 pub use trash::Trash;
-
-#[cfg(test)]
-mod tests;

@@ -1,5 +1,5 @@
-use crate::Core;
 use keel_base::{Batch, Bytes, Call, FileName, Op, Ops, Rows};
+use keel_core::Core;
 use keel_disk::Rule;
 use keel_machine::{Admit, Got, Outcome, Part, Scanned, WriteStep};
 use keel_simdisk::SimDisk;
@@ -37,8 +37,6 @@ fn has(alloc: Global, core: &mut Core<SimDisk>, key: &[u8], value: &[u8]) -> boo
 fn a_put_goes_through_its_calls(rt: HostRuntime) -> Result<(), Fail> {
     let alloc = rt.alloc();
     let mut core = open(alloc, SimDisk::new(alloc, CAPACITY))?;
-    assert!(rt; core.simulated());
-    assert!(rt; core.arrange(alloc, Rule::Capacity(CAPACITY)) == Ok(true));
     let admitted = core.admit(put(alloc, b"a", b"1")?);
     assert!(rt; matches!(admitted, Admit::Queued { ticket: 1 }));
     assert!(rt; matches!(core.take_outcome(1), Outcome::Waiting));
@@ -60,6 +58,24 @@ fn a_put_goes_through_its_calls(rt: HostRuntime) -> Result<(), Fail> {
     assert!(rt; matches!(core.write_step(alloc, None), WriteStep::Idle));
     assert!(rt; matches!(core.take_outcome(1), Outcome::Done { seq: 1 }));
     assert!(rt; matches!(core.take_outcome(1), Outcome::Unknown));
+    Ok(())
+}
+
+// A store with one synced put behind its four calls.
+fn written(alloc: Global) -> Result<Core<SimDisk>, Fail> {
+    let mut core = open(alloc, SimDisk::new(alloc, CAPACITY))?;
+    let _ = core.admit(put(alloc, b"a", b"1")?);
+    for _ in 0..4 {
+        let _ = core.write_step(alloc, None);
+    }
+    Ok(core)
+}
+
+/// What a synced put leaves in the store, and in its trail.
+#[test]
+fn a_put_is_read(rt: HostRuntime) -> Result<(), Fail> {
+    let alloc = rt.alloc();
+    let mut core = written(alloc)?;
     assert!(rt; has(alloc, &mut core, b"a", b"1"));
     assert!(rt; matches!(core.get(alloc, b"b"), Got::Absent));
     let trail = core.trail();
@@ -67,6 +83,14 @@ fn a_put_goes_through_its_calls(rt: HostRuntime) -> Result<(), Fail> {
     assert_eq!(rt; trail.log().len(), 1);
     assert_eq!(rt; trail.limbo().len(), 0);
     assert_eq!(rt; trail.floor(), 1);
+    Ok(())
+}
+
+/// Its log, and what the next opening finds there.
+#[test]
+fn a_put_is_found_again(rt: HostRuntime) -> Result<(), Fail> {
+    let alloc = rt.alloc();
+    let mut core = written(alloc)?;
     let files = core.list(alloc).ok().ok_or("the directory isn't listed")?;
     assert_eq!(rt; files.len(), 1);
     assert_eq!(rt; files.as_slice()[0].name, FileName::Log(1));
@@ -75,6 +99,16 @@ fn a_put_goes_through_its_calls(rt: HostRuntime) -> Result<(), Fail> {
     assert_eq!(rt; again.last_seq(), 1);
     assert_eq!(rt; again.trail().read().len(), 1);
     assert!(rt; has(alloc, &mut again, b"a", b"1"));
+    Ok(())
+}
+
+/// A driver arranges failures on the device of an open store.
+#[test]
+fn a_device_holds_less(rt: HostRuntime) -> Result<(), Fail> {
+    let alloc = rt.alloc();
+    let mut core = open(alloc, SimDisk::new(alloc, CAPACITY))?;
+    assert!(rt; core.simulated());
+    assert!(rt; core.arrange(alloc, Rule::Capacity(CAPACITY)) == Ok(true));
     Ok(())
 }
 

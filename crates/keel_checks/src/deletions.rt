@@ -1,11 +1,11 @@
 ghost use Rattle.std.specs.Prelude.{◌≡◌, ◌∷◌, [], IfOk};
 ghost use Rattle.keel_trash.specs.State.{AreQueued};
 
-use crate::{DeleteStep, Trash, laws};
 use keel_base::{Bytes, Call, Fault, FileName, OutOfMemory};
 use keel_disk::{Device, Disk, DiskError, Rule};
 use keel_simdisk::SimDisk;
 use keel_space::Space;
+use keel_trash::{DeleteStep, Trash, laws};
 use std::alloc::Global;
 use std::test::Fail;
 
@@ -107,7 +107,13 @@ fn trash_is_cut_and_removed_slowly(rt: HostRuntime) -> Result<(), Fail> {
         (2000, DeleteStep::Idle),
     ];
     assert_eq!(rt; agree(alloc, &mut disk, 40, &steps), Ok(true));
-    // Behind a refused rename both names are removed.
+    Ok(())
+}
+
+/// Behind a refused rename both names are removed.
+#[test]
+fn a_refused_rename_removes_both_names(rt: HostRuntime) -> Result<(), Fail> {
+    let alloc = rt.alloc();
     let mut disk = SimDisk::new(alloc, 1000);
     filled(alloc, &mut disk).ok().ok_or("device")?;
     let rule = Rule::Fail {

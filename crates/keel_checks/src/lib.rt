@@ -1,0 +1,10 @@
+//! Tests that stand on several layers: the engine and the deleter over the device in memory.
+//!
+//! It gives nothing to other crates. The layers' own tests need no device, so that a change of the device in memory
+//! proves the program and these tests again, and no layer between.
+#![tactic(auto)]
+
+#[cfg(test)]
+mod deletions;
+#[cfg(test)]
+mod engine;
