@@ -1,7 +1,6 @@
 use Rattle.std.proofs.Common.{sym}
 use Rattle.keel_space.specs.Places.{IsAt, HaveOther}
-use Rattle.std.proofs.Common.{◌≡◌, take, get_or}
-use Rattle.keel_base.specs.declared.listing.Entry.{Entry}
+use Rattle.std.proofs.Common.{take}
 use Rattle.keel_space.proofs.Files.{size_of-at, size_of-none}
 use Rattle.keel_space.proofs.space.Space.size.Goals as goal
 
