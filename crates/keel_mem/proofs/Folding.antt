@@ -3,7 +3,6 @@ use Rattle.std.proofs.Common.{◌≡◌, ℕ, ◌+◌, ◌<◌, Bool, true, fals
 use Rattle.std.specs.Prelude.{All}
 use Rattle.std.specs.FinMap.{get, get-insert, get-remove}
 use Rattle.std.specs.Ordering.{eq_by_cmp}
-use Rattle.std.proofs.lemmas.Bool.{lt-ltb}
 use Rattle.std.proofs.lemmas.List.{append-nil}
 use Rattle.std.proofs.lemmas.Cmp.{nat_list_cmp_total, eq_by_cmp_equiv}
 use Rattle.std.proofs.lemmas.List.Elements.{All-push, All-weaker, All-head, All-tail}
@@ -13,13 +12,11 @@ use Rattle.keel_base.specs.declared.row.Row.{Row}
 use Rattle.keel_base.specs.Keys.{key_cmp, key_eq}
 use Rattle.keel_base.specs.Points.{Values, after_op, after_ops}
 use Rattle.keel_base.specs.Rows.{op_row, op_rows, newer, newest, value_left, IsMapOf}
-
-beats : (row last : Row) → row.seq < last.seq → newer row (Some last) ≡ Some last
-beats row last less = rw (lt-ltb row.seq last.seq less) refl
+use Rattle.keel_base.proofs.Newest.{newer_is_other}
 
 chosen : (b : Bool) (row last : Row) (rest : Option Row) → row.seq < last.seq
     → cond b (newer row (cond true (Some last) rest)) (cond true (Some last) rest) ≡ Some last
-chosen true row last rest less = beats row last less
+chosen true row last rest less = newer_is_other row last less
 chosen false row last rest less = refl
 
 -- a row of a greater number than all is the newest of its key, and changes nothing of another

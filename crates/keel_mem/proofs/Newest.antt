@@ -6,14 +6,14 @@ use Rattle.std.specs.List.Sorted.{IsPermutation}
 use Rattle.std.specs.declared.cmp.Ordering.{Ordering}
 use Rattle.std.specs.declared.cmp.Ordering.TheVariants.{Less, Equal, Greater}
 use Rattle.std.specs.Ordering.{is_lt, is_eq}
-use Rattle.std.proofs.lemmas.Bool.{lt-ltb, le-ltb, ltb-true, false≢true}
-use Rattle.std.proofs.lemmas.Cmp.{nat_list_cmp_total, tied_itself}
-use Rattle.std.proofs.lemmas.Map.Lookups.{exact_bytes}
+use Rattle.std.proofs.lemmas.Bool.{ltb-true, false≢true}
 use Rattle.std.proofs.lemmas.List.Elements.{All-nil, All-cons, All-head, All-tail, All-weaker}
 use Rattle.std.proofs.lemmas.List.Sorted.{All-permutation, Contains-permutation, IsPermutation-sym}
 use Rattle.keel_base.specs.declared.row.Row.{Row}
 use Rattle.keel_base.specs.Keys.{key_cmp, key_eq}
 use Rattle.keel_base.specs.Rows.{newer, newest}
+use Rattle.keel_base.proofs.KeyOrder.{eq_same, cmp_itself}
+use Rattle.keel_base.proofs.Newest.{newer_is_other, newer_is_row}
 use Rattle.keel_region.specs.declared.span.IndexEntry.{IndexEntry}
 use Rattle.keel_region.specs.Order.{has_key}
 use Rattle.keel_region.specs.Order as entries
@@ -23,11 +23,6 @@ use Rattle.keel_mem.specs.Shown.{row_in, rows_in, rows_by_arrival}
 use Rattle.keel_mem.proofs.Keeping.{rows_in_order}
 use Rattle.keel_mem.proofs.Numbering.{by_number-permutes}
 
-equal_is : (o : Ordering) → is_eq o ≡ true → o ≡ Equal
-equal_is Less h = cc
-equal_is Equal h = refl
-equal_is Greater h = cc
-
 later_of : (o : Ordering) (i j : ℕ) → o ≡ Equal → (is_lt o || (is_eq o && ltb j i)) ≡ true → j < i
 later_of Less i j e h = absurd cc
 later_of Equal i j e h = ltb-true j i h
@@ -36,9 +31,9 @@ later_of Greater i j e h = absurd cc
 -- of two rows of a key the one in front is the newer
 newer_in_front : (key : List ℕ) (row other : Row) → key_eq row.key key ≡ true → key_eq other.key key ≡ true → RowPrecedes row other → other.seq < row.seq
 newer_in_front key row other is other_is before =
-    let first = exact_bytes row.key key (equal_is (key_cmp row.key key) is) in
-    let second = exact_bytes other.key key (equal_is (key_cmp other.key key) other_is) in
-    let same : key_cmp row.key other.key ≡ Equal = ap (key_cmp row.key) (second ∙ sym first) ∙ tied_itself nat_list_cmp_total row.key in
+    let first = eq_same row.key key is in
+    let second = eq_same other.key key other_is in
+    let same : key_cmp row.key other.key ≡ Equal = ap (key_cmp row.key) (second ∙ sym first) ∙ cmp_itself row.key in
     later_of (key_cmp row.key other.key) row.seq other.seq same before
 
 -- a row is that one or older
@@ -50,13 +45,13 @@ abbrev IsPassed : List ℕ → Row → Row → Type 0
 IsPassed key row other = key_eq other.key key ≡ true → IsUpTo row other
 
 over_rest : (row other : Row) → IsUpTo row other → newer row (Some other) ≡ Some row
-over_rest row other (inl same) = rw (le-ltb row.seq other.seq (omega (arith, ap (λ (r : Row). r.seq) same))) refl
-over_rest row other (inr less) = rw (le-ltb row.seq other.seq (omega arith)) refl
+over_rest row other (inl same) = newer_is_row row other (omega (arith, ap (λ (r : Row). r.seq) same))
+over_rest row other (inr less) = newer_is_row row other (omega (arith, less))
 
 under_newest : (row other : Row) → IsUpTo row other → newer other (Some row) ≡ Some row
 under_newest row other (inl same) =
-    rw (le-ltb other.seq row.seq (omega (arith, ap (λ (r : Row). r.seq) same))) (ap (λ (r : Row). Some r) same)
-under_newest row other (inr less) = rw (lt-ltb other.seq row.seq less) refl
+    newer_is_row other row (omega (arith, ap (λ (r : Row). r.seq) same)) ∙ ap (λ (r : Row). Some r) same
+under_newest row other (inr less) = newer_is_other other row less
 
 newer_up_to : (row other : Row) (rest : Option Row) → IsUpTo row other → IfSome rest (IsUpTo row) → IfSome (newer other rest) (IsUpTo row)
 newer_up_to row other None one h = one

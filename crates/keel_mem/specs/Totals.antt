@@ -1,5 +1,5 @@
 -- Rows summed up.
-use Rattle.std.specs.Prelude.{ℕ, ◌+◌, List, [], ◌∷◌, length, sum_by, min, max}
+use Rattle.std.specs.Prelude.{ℕ, ◌+◌, ◌^◌, List, [], ◌∷◌, length, sum_by, min, max}
 use Rattle.keel_base.specs.declared.row.Row.{Row}
 
 -- the bytes of a row's key and value
@@ -9,6 +9,10 @@ row_bytes row = length row.key + length row.value
 -- the bytes of all keys and values, and 16 for each row
 abbrev pub weight_of : List Row → ℕ
 weight_of rows = sum_by (λ row. 16 + row_bytes row) rows
+
+-- the most that the rows may weigh
+abbrev pub most_weight : ℕ
+most_weight = 2 ^ 56
 
 -- the least sequence number, 0 where there is no row
 abbrev pub least_seq : List Row → ℕ

@@ -15,7 +15,7 @@ mod rows;
 mod sizes;
 
 pub use found::Found;
-pub use mem::Mem;
+pub use mem::{MAX_MEM_WEIGHT, Mem};
 pub use rows::{MemRow, MemRows};
 
 #[cfg(test)]

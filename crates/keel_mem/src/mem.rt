@@ -1,13 +1,13 @@
 // The memtable.
-ghost use Rattle.std.specs.Prelude.{◌≡◌, ◌+◌, ◌<◌, ◌≤◌, ◌^◌, [], ◌∷◌, ◌++◌, length, All, OnOk, OnErr};
+ghost use Rattle.std.specs.Prelude.{◌≡◌, ◌↔◌, ◌+◌, ◌*◌, ◌<◌, ◌≤◌, ◌^◌, [], ◌∷◌, ◌++◌, length, All, IsTrue, OnOk, OnErr};
 ghost use Rattle.std.specs.List.{AllByRecursion};
 ghost use Rattle.std.specs.List.Sorted.{IsPermutation};
 ghost use Rattle.keel_base.specs.Weight.{IsWithinLimits};
-ghost use Rattle.keel_base.specs.Rows.{op_row, op_rows, newest};
+ghost use Rattle.keel_base.specs.Rows.{op_row, op_rows, newest, IsRow};
 ghost use Rattle.keel_mem.specs.Finding.{Finds};
 ghost use Rattle.keel_mem.specs.Needs.{op_bytes, bytes_of};
 ghost use Rattle.keel_mem.specs.RowOrder.{AreInOrder};
-ghost use Rattle.keel_mem.specs.Totals.{weight_of, least_seq, greatest_seq, first_of};
+ghost use Rattle.keel_mem.specs.Totals.{most_weight, weight_of, least_seq, greatest_seq, first_of};
 
 use crate::found::Found;
 use crate::rows::MemRows;
@@ -16,6 +16,9 @@ use keel_base::{Batch, Kind, Op, OutOfMemory};
 use keel_region::{Index, IndexEntry, Region};
 use std::alloc::Global;
 use std::marker::Model;
+
+/// The most that a memtable may weigh.
+pub const MAX_MEM_WEIGHT: u64 = 72_057_594_037_927_936;
 
 /// Rows of batches, with room that was reserved for more.
 #[derive(Debug, Drop)]
@@ -56,7 +59,8 @@ impl Mem {
         }
     }
 
-    /// Takes the memory that the batch needs, beside what was reserved before. On want of memory all stays as it was.
+    /// Takes the memory that the batch needs, beside what was reserved before. Want of memory leaves all as it was, and
+    /// is also the answer where the rows would weigh more than `MAX_MEM_WEIGHT`.
     pub fn reserve(&mut self, batch: &Batch) -> Result<(), OutOfMemory>
         requires limits { AllByRecursion IsWithinLimits batch.now.ops }
         requires few { length batch.now.ops ≤ 1000 }
@@ -96,11 +100,23 @@ impl Mem {
             .checked_add(ops_size(ops))
             .ok_or(OutOfMemory)?;
         let entries = self.free_entries.checked_add(ops.len()).ok_or(OutOfMemory)?;
+        if !self.has_weight_for(bytes, entries) {
+            return Err(OutOfMemory);
+        }
         self.region.reserve(bytes)?;
         self.index.reserve(entries)?;
         self.free_bytes = bytes;
         self.free_entries = entries;
         Ok(())
+    }
+
+    // Whether rows of so many bytes and so many entries weigh no more than is left.
+    fn has_weight_for(&self, bytes: usize, entries: usize) -> bool
+        ensures { IsTrue result ↔ (weight_of self.now.rows + (16 * entries + bytes) ≤ most_weight) }
+    {
+        let left = MAX_MEM_WEIGHT - self.weight();
+        let bytes = bytes as u64;
+        bytes <= left && entries as u64 <= (left - bytes) / 16
     }
 
     /// Puts the rows of some ops for which room was reserved, as `put_reserved` does for a batch.
@@ -124,7 +140,9 @@ impl Mem {
     fn put_op(&mut self, seq: u64, op: &Op)
         requires bytes { op_bytes op.now ≤ self.old.bytes }
         requires entries { 0 < self.old.entries }
+        requires limits { IsWithinLimits op.now }
         requires above { All (λ row. row.seq < seq) self.old.rows }
+        requires within { seq ≤ 2 ^ 56 }
         ensures rows { self.new.rows ≡ self.old.rows ++ op_row seq op.now ∷ [] }
         ensures bytes { self.new.bytes + op_bytes op.now ≡ self.old.bytes }
         ensures entries { self.new.entries + 1 ≡ self.old.entries }
@@ -138,7 +156,9 @@ impl Mem {
     fn put(&mut self, seq: u64, kind: Kind, key: &[u8], value: &[u8])
         requires bytes { length key.now + length value.now ≤ self.old.bytes }
         requires entries { 0 < self.old.entries }
+        requires limits { IsRow (record { seq = seq; kind = kind; key = key.now; value = value.now }) }
         requires above { All (λ row. row.seq < seq) self.old.rows }
+        requires within { seq ≤ 2 ^ 56 }
         ensures rows { self.new.rows ≡ self.old.rows ++ record { seq = seq; kind = kind; key = key.now; value = value.now } ∷ [] }
         ensures bytes { self.new.bytes + (length key.now + length value.now) ≡ self.old.bytes }
         ensures entries { self.new.entries + 1 ≡ self.old.entries }
@@ -187,13 +207,15 @@ impl Mem {
     pub fn rows(&self) -> MemRows<'_>
         ensures order { AreInOrder result }
         ensures same { IsPermutation self.now.rows result }
+        ensures limits { All IsRow result }
     {
         MemRows::new(&self.region, self.index.entries())
     }
 
     /// What the rows weigh: the bytes of their keys and values, and 16 each.
     pub fn weight(&self) -> u64
-        ensures { result ≡ weight_of self.now.rows }
+        ensures value { result ≡ weight_of self.now.rows }
+        ensures bound { result ≤ most_weight }
     {
         16 * self.index.entries().len() as u64 + self.region.len() as u64
     }
@@ -207,7 +229,8 @@ impl Mem {
 
     /// The greatest sequence number, or 0 where there is no row.
     pub fn last(&self) -> u64
-        ensures { result ≡ greatest_seq self.now.rows }
+        ensures value { result ≡ greatest_seq self.now.rows }
+        ensures bound { result ≤ 2 ^ 56 }
     {
         self.last
     }

@@ -36,7 +36,9 @@ invariant_of-self c =
     c.self.inside.region c.place-value.new.self c.self.inside.index c.insert.new.self c.self.inside.free_bytes c.self.inside.free_entries c.self.inside.first c.self.inside.last
     c.first_behind-self-inside.result refl refl refl whole (omega (arith, c.place-value.ensures.spare, c.place-key.ensures.spare)) c.insert.ensures.spare c.insert.ensures.order below
     (c.first_behind-self-inside.ensures ∙ ap (λ (rows : List Row). first_of rows c.args.seq) (sym arrived))
-    c.self.invariant.total c.self.invariant.room c.self.invariant.places
+    c.self.invariant.total c.self.invariant.room c.self.invariant.places c.self.invariant.limits c.requires.limits c.requires.within c.self.invariant.weight
+    (omega (arith, c.requires.bytes, ap (λ (m : MemShown). m.bytes) c.self.view_is))
+    (omega (arith, c.requires.entries, ap (λ (m : MemShown). m.entries) c.self.view_is))
 
 pub returns-clause-rows : goal.returns-clause-rows
 returns-clause-rows c =

@@ -1,6 +1,8 @@
 use Rattle.std.proofs.Common.{◌≡◌, List, subst, sym, ap, ◌∙◌}
 use Rattle.std.specs.List.Sorted.{IsPermutation}
-use Rattle.std.proofs.lemmas.List.Sorted.{IsPermutation-sym}
+use Rattle.std.specs.Prelude.{All}
+use Rattle.std.proofs.lemmas.List.Sorted.{All-permutation, IsPermutation-sym}
+use Rattle.keel_base.specs.Rows.{IsRow}
 use Rattle.keel_base.specs.declared.row.Row.{Row}
 use Rattle.keel_mem.specs.RowOrder.{AreInOrder}
 use Rattle.keel_mem.specs.Shown.{MemShown, rows_in, rows_by_arrival}
@@ -21,3 +23,10 @@ returns-clause-same c =
     let back : IsPermutation (rows_by_arrival bytes c.self.inside.index.entries) rows = IsPermutation-sym rows _ (by_number-permutes rows) in
     let given : IsPermutation c.args.self.now.rows rows = subst (λ (l : List Row). IsPermutation l rows) arrived back in
     subst (IsPermutation c.args.self.now.rows) (sym (c.new.ensures ∙ ap (rows_in bytes) c.entries.ensures)) given
+
+pub returns-clause-limits : goal.returns-clause-limits
+returns-clause-limits c =
+    let bytes = c.self.inside.region.bytes in
+    let rows = rows_in bytes c.self.inside.index.entries in
+    subst (All IsRow) (sym (c.new.ensures ∙ ap (rows_in bytes) c.entries.ensures))
+    (All-permutation IsRow (rows_by_arrival bytes c.self.inside.index.entries) rows (IsPermutation-sym rows _ (by_number-permutes rows)) c.self.invariant.limits)

@@ -5,8 +5,8 @@ use Rattle.keel_mem.specs.Totals.{weight_of}
 use Rattle.keel_mem.proofs.Putting.{weighs}
 use Rattle.keel_mem.proofs.mem.Mem.weight.Goals as goal
 
-pub returns : goal.returns
-returns c =
+pub returns-clause-value : goal.returns-clause-value
+returns-clause-value c =
     ap (λ (es : List IndexEntry). 16 * length es + c.len.result) c.entries.ensures
     ∙ weighs c.self.inside.region.bytes c.self.inside.index.entries c.len.result (c.len.ensures.count ∙ c.self.invariant.total)
     ∙ ap (λ (m : MemShown). weight_of m.rows) c.self.view_is
