@@ -1,3 +1,4 @@
+pub mod Currents
 pub mod Decimals
 pub mod Listings
 pub mod Spellings

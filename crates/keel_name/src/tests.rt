@@ -1,4 +1,4 @@
-use crate::{laws, print, read, read_decimal};
+use crate::{laws, print, print_current, read, read_current, read_decimal};
 use keel_base::FileName;
 use std::test::Fail;
 
@@ -22,6 +22,17 @@ fn names_are_printed_and_read(rt: HostRuntime) -> Result<(), Fail> {
         assert_eq!(rt; printed.as_slice(), spelling);
         assert_eq!(rt; read(spelling), Some(name));
     }
+    Ok(())
+}
+
+#[test]
+fn current_is_printed_and_read(rt: HostRuntime) -> Result<(), Fail> {
+    let current = print_current(rt.alloc(), 2).ok().ok_or("memory")?;
+    assert_eq!(rt; current.as_slice(), b"MANIFEST-000002\n".as_slice());
+    assert_eq!(rt; read_current(current.as_slice()), Some(2));
+    assert_eq!(rt; read_current(b"MANIFEST-000002"), None);
+    assert_eq!(rt; read_current(b"000002.log\n"), None);
+    laws::one_manifest();
     Ok(())
 }
 
