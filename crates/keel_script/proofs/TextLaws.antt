@@ -48,7 +48,7 @@ plain_differs byte plain =
     let parts = both (leb 33 byte && leb byte 126) (not (byte == 37)) plain in
     elim (byte == 37) as (λ (test : Bool). not test ≡ true → test ≡ false) [ true ↦ λ e. cc | false ↦ λ e. refl ] parts.1
 
-plain_byte : (byte : ℕ) (rest : List ℕ) → is_plain byte ≡ true → byte_at (byte ∷ rest) ≡ Some (byte, rest)
+pub plain_byte : (byte : ℕ) (rest : List ℕ) → is_plain byte ≡ true → byte_at (byte ∷ rest) ≡ Some (byte, rest)
 unfolding byte_at
 plain_byte byte rest plain =
     let value : ℕ × List ℕ = (byte, rest) in

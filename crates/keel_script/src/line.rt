@@ -4,7 +4,7 @@ ghost use Rattle.std.specs.Fmt.{decimal, digit_glyph};
 ghost use Rattle.std.specs.List.{flat_map};
 ghost use Rattle.keel_script.specs.Texts.{printed_byte, printed_text};
 
-use crate::text::is_plain;
+use crate::text::{is_plain, plain_length};
 use keel_base::{Bytes, OutOfMemory};
 use std::alloc::Global;
 
@@ -64,10 +64,16 @@ pub fn with_text(mut line: Bytes, text: &Bytes) -> Result<Bytes, OutOfMemory>
 fn add_bytes(line: &mut Bytes, bytes: &[u8]) -> Result<(), OutOfMemory>
     ensures { OnOk result (line.new ≡ line.old ++ flat_map printed_byte bytes.now) }
 {
-    for byte in bytes {
+    let mut rest = bytes;
+    'bytes: loop {
+        let (plain, behind) = rest.split_at(plain_length(rest));
+        line.extend(plain)?;
+        let Some((byte, others)) = behind.split_first() else {
+            return Ok(());
+        };
         add_byte(line, *byte)?;
+        rest = others;
     }
-    Ok(())
 }
 
 // A byte as itself wherever it can be, and as `%` and two digits in upper case otherwise.

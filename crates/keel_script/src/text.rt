@@ -1,5 +1,5 @@
 // Texts: any bytes in one word.
-ghost use Rattle.std.specs.Prelude.{◌≡◌, ◌<◌};
+ghost use Rattle.std.specs.Prelude.{◌≡◌, ℕ, ◌<◌, ◌≤◌, true, length, slice_index};
 ghost use Rattle.std.specs.Char.{digit_value};
 ghost use Rattle.std.specs.Option.{SomeIff};
 ghost use Rattle.keel_script.specs.Reading.{Gives, byte_at, bytes_from, text_from};
@@ -29,12 +29,29 @@ fn bytes_of(alloc: Global, word: &[u8]) -> Result<Bytes, LineError>
 {
     let mut bytes = Bytes::new(alloc);
     let mut rest = word;
-    'bytes: while !rest.is_empty() {
-        let (byte, others) = byte_of(rest)?;
+    'bytes: loop {
+        let (plain, behind) = rest.split_at(plain_length(rest));
+        bytes.extend(plain)?;
+        if behind.is_empty() {
+            return Ok(bytes);
+        }
+        let (byte, others) = byte_of(behind)?;
         bytes.extend(&[byte])?;
         rest = others;
     }
-    Ok(bytes)
+}
+
+// How many bytes at the front may stand for themselves.
+pub(crate) fn plain_length(bytes: &[u8]) -> usize
+    ensures within { result ≤ length bytes.now }
+    ensures plain { (k : ℕ) → k < result → is_plain (slice_index bytes.now k) ≡ true }
+{
+    for (place, byte) in bytes.iter().enumerate() {
+        if !is_plain(*byte) {
+            return place;
+        }
+    }
+    bytes.len()
 }
 
 // The first byte, and the spelling of the others.
