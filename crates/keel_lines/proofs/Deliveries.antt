@@ -6,7 +6,7 @@ use Rattle.std.specs.List.{AllByRecursion}
 use Rattle.std.specs.Io.KnownBytes.{Consumes, IsAtEnd, Keeps, prepend_known}
 use Rattle.keel_lines.specs.Calls.{LinesView, left}
 use Rattle.keel_lines.specs.Delivered.{Delivered}
-use Rattle.keel_lines.specs.Inputs.{IsFront, AreFirst, AreAll, AreBeforeLong, AreWithin, AreTaken, TakesFew}
+use Rattle.keel_lines.specs.Inputs.{IsFront}
 use Rattle.keel_lines.specs.Laws as law
 use Rattle.keel_lines.specs.Lines.{longest_line, longest_input, lines_of, whole_lines, length_before, IsUnbroken, EndsLine}
 use Rattle.keel_lines.specs.Pieces.{mark_if, IsTooLong}

@@ -1,6 +1,6 @@
-use Rattle.std.proofs.Common.{◌≡◌, ◌+◌, ◌*◌, ◌≤◌, refl, ap, arith}
-use Rattle.keel_mem.specs.Shown.{MemShown, rows_by_arrival}
-use Rattle.keel_mem.specs.Totals.{most_weight, weight_of}
+use Rattle.std.proofs.Common.{refl, ap, arith}
+use Rattle.keel_mem.specs.Shown.{MemShown}
+use Rattle.keel_mem.specs.Totals.{weight_of}
 use Rattle.keel_mem.proofs.Putting.{reserved_sound}
 use Rattle.keel_mem.proofs.mem.Mem.reserve_ops.Goals as goal
 
