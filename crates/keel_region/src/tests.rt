@@ -45,7 +45,7 @@ fn entries_go_by_key_and_the_newest_first(rt: HostRuntime) -> Result<(), Fail> {
         value: b,
     };
     index.insert(&region, newest);
-    assert_eq!(rt; index.entries(), [newest].as_slice());
+    assert_eq!(rt; index.len(), 1);
     assert_eq!(rt; index.first(), Some(newest));
     assert_eq!(rt; index.find(&region, b"a"), Some(newest));
     assert_eq!(rt; index.find(&region, b"b"), None);
