@@ -188,14 +188,14 @@ impl Mem {
         ensures order { AreInOrder result }
         ensures same { IsPermutation self.now.rows result }
     {
-        MemRows::new(&self.region, self.index.entries())
+        MemRows::new(&self.region, &self.index)
     }
 
     /// What the rows weigh: the bytes of their keys and values, and 16 each.
     pub fn weight(&self) -> u64
         ensures { result ≡ weight_of self.now.rows }
     {
-        16 * self.index.entries().len() as u64 + self.region.len() as u64
+        16 * self.index.len() as u64 + self.region.len() as u64
     }
 
     /// The least sequence number, or 0 where there is no row.

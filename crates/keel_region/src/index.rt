@@ -1,5 +1,5 @@
 // Entries in order, whose room is taken first: a search tree in a pool.
-ghost use Rattle.std.specs.Prelude.{◌≡◌, ℕ, ◌+◌, ◌<◌, ◌≤◌, [], length, slice_get, find, Contains, OnOk, OnErr, Some};
+ghost use Rattle.std.specs.Prelude.{◌≡◌, ℕ, ◌+◌, ◌<◌, ◌≤◌, ◌^◌, [], length, slice_get, find, Contains, OnOk, OnErr, Some};
 ghost use Rattle.keel_region.specs.Order.{AreInOrder, IsNew, IsPutIn, has_key};
 ghost use Rattle.keel_region.specs.Spans.{IsHeld, AreHeld};
 
@@ -101,7 +101,8 @@ impl Index {
 
     /// The number of entries.
     pub fn len(&self) -> usize
-        ensures { result ≡ length self.now.entries }
+        ensures count { result ≡ length self.now.entries }
+        ensures bound { result < 2 ^ 57 }
     {
         self.pool.taken()
     }
