@@ -1,6 +1,6 @@
 -- Going down a tree to the first entry that fails a test.
-use Rattle.std.proofs.Common.{◌≡◌, ◌≢◌, ℕ, zero, suc, ◌+◌, ◌-◌, ◌<◌, ◌≤◌, Bool, true, false, List, [], ◌∷◌, ◌++◌, length, get_or, Option, Some, None, inl, inr, refl, sym, ap, subst, ◌∙◌, arith}
-use Rattle.std.specs.Prelude.{All, Contains, find, slice_get, if◌then◌else◌}
+use Rattle.std.proofs.Common.{◌≡◌, ℕ, zero, suc, ◌+◌, ◌<◌, ◌≤◌, Bool, true, false, List, [], ◌∷◌, ◌++◌, length, get_or, Option, Some, None, inl, inr, refl, sym, ap, subst, ◌∙◌, arith}
+use Rattle.std.specs.Prelude.{find, slice_get, if◌then◌else◌}
 use Rattle.std.proofs.lemmas.Bool.{cases_lt, false≢true}
 use Rattle.std.proofs.lemmas.List.{get_or_default}
 use Rattle.keel_region.specs.declared.span.IndexEntry.{IndexEntry}
@@ -11,7 +11,7 @@ use Rattle.keel_region.specs.Places.{IsPlaceOf}
 use Rattle.keel_region.specs.Slots.{node_at}
 use Rattle.keel_region.specs.Spans.{bytes_at, IsHeld, AreHeld}
 use Rattle.keel_region.specs.Trees.{Tree, root_of, walk, Stands, failing_or, is_up_to}
-use Rattle.keel_region.proofs.Orders.{Precedes-before, comes_before-itself, comes_before-trans}
+use Rattle.keel_region.proofs.Orders.{comes_before-itself, comes_before-trans}
 use Rattle.keel_region.proofs.Seeking.{slice_get_some, found_past, found_here, found_other}
 use Rattle.keel_region.proofs.Trees.{back_order, front_order, cross_order, halves, no_walk}
 use Rattle.keel_region.proofs.Planting.{get_or_self, has_place}

@@ -1,5 +1,5 @@
 -- The tree below a root is the one that stands there.
-use Rattle.std.proofs.Common.{◌≡◌, ℕ, zero, suc, ◌+◌, ◌<◌, ◌≤◌, Bool, true, false, List, [], ◌∷◌, ◌++◌, length, Option, Some, None, refl, sym, ap, subst, ◌∙◌, arith}
+use Rattle.std.proofs.Common.{◌≡◌, ℕ, zero, suc, ◌<◌, ◌≤◌, List, [], ◌∷◌, ◌++◌, length, Option, Some, None, refl, sym, ap, subst, ◌∙◌, arith}
 use Rattle.std.proofs.lemmas.List.{length-append}
 use Rattle.std.proofs.lemmas.List.Elements.{All-contains}
 use Rattle.keel_region.specs.declared.span.IndexEntry.{IndexEntry}
@@ -8,7 +8,7 @@ use Rattle.keel_region.specs.declared.pool.Slot.{Slot}
 use Rattle.keel_region.specs.Slots.{node_at}
 use Rattle.keel_region.specs.Trees.{Tree, Leaf, Fork, root_of, walk, Stands, grown, tree_at, HasTree}
 use Rattle.std.specs.Prelude.{All}
-use Rattle.keel_region.proofs.Trees.{Halves, halves, middle, all_front, all_back}
+use Rattle.keel_region.proofs.Trees.{halves, middle, all_front, all_back}
 
 unfold_some : (n : ℕ) (slots : List (Option Node)) (slot : Slot) (node : Node) → node_at slots slot.place ≡ Some node
     → grown (suc n) slots (Some slot) ≡ Fork slot.place node.entry node.height (grown n slots node.left) (grown n slots node.right)
@@ -41,17 +41,25 @@ pub has_left : (holds : IndexEntry → Type 0) (slots : List (Option Node)) (roo
     → HasTree holds slots node.left
 has_left holds slots root slot node has is there =
     let half = halves slots has.tree slot node has.stands (has.rooted ∙ is) there in
-    record { tree = half.left; rooted = half.root_left; stands = half.stands_left;
+    record {
+      tree = half.left;
+      rooted = half.root_left;
+      stands = half.stands_left;
       few = omega (arith, has.few, ap length half.is, length-append (walk half.left) (node.entry ∷ walk half.right));
-      held = all_front holds (walk half.left) (node.entry ∷ walk half.right) (subst (All holds) half.is has.held) }
+      held = all_front holds (walk half.left) (node.entry ∷ walk half.right) (subst (All holds) half.is has.held);
+    }
 
 pub has_right : (holds : IndexEntry → Type 0) (slots : List (Option Node)) (root : Option Slot) (slot : Slot) (node : Node) → HasTree holds slots root → root ≡ Some slot → node_at slots slot.place ≡ Some node
     → HasTree holds slots node.right
 has_right holds slots root slot node has is there =
     let half = halves slots has.tree slot node has.stands (has.rooted ∙ is) there in
-    record { tree = half.right; rooted = half.root_right; stands = half.stands_right;
+    record {
+      tree = half.right;
+      rooted = half.root_right;
+      stands = half.stands_right;
       few = omega (arith, has.few, ap length half.is, length-append (walk half.left) (node.entry ∷ walk half.right));
-      held = all_back holds (node.entry ∷ []) (walk half.right) (all_back holds (walk half.left) (node.entry ∷ walk half.right) (subst (All holds) half.is has.held)) }
+      held = all_back holds (node.entry ∷ []) (walk half.right) (all_back holds (walk half.left) (node.entry ∷ walk half.right) (subst (All holds) half.is has.held));
+    }
 
 -- the bytes of the root's own entry lie among the bytes
 pub own_held : (holds : IndexEntry → Type 0) (slots : List (Option Node)) (root : Option Slot) (slot : Slot) (node : Node) → HasTree holds slots root → root ≡ Some slot → node_at slots slot.place ≡ Some node

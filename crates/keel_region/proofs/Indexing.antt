@@ -1,14 +1,14 @@
 -- What an index keeps, as room is taken and as an entry is put in.
-use Rattle.std.proofs.Common.{◌≡◌, ℕ, zero, suc, ◌+◌, ◌<◌, ◌≤◌, Bool, true, List, [], ◌∷◌, length, Option, Some, None, refl, sym, ap, subst, ◌∙◌, arith}
-use Rattle.std.specs.Prelude.{All, Contains}
+use Rattle.std.proofs.Common.{◌≡◌, ℕ, ◌+◌, ◌≤◌, List, length, Option, Some, None, sym, ap, subst, ◌∙◌, arith}
+use Rattle.std.specs.Prelude.{All}
 use Rattle.std.proofs.lemmas.List.Edits.{length-insert}
 use Rattle.keel_region.specs.declared.span.IndexEntry.{IndexEntry}
 use Rattle.keel_region.specs.declared.pool.Node.{Node}
 use Rattle.keel_region.specs.declared.pool.Slot.{Slot}
 use Rattle.keel_region.specs.Order.{AreInOrder, IsNew, IsPutIn}
-use Rattle.keel_region.specs.Slots.{node_at, KeepsNodes}
-use Rattle.keel_region.specs.Spans.{bytes_at, IsHeld, AreHeld}
-use Rattle.keel_region.specs.Trees.{Tree, Leaf, root_of, walk, Stands, grown, tree_at, HasTree, IsIndex, Makes, put_in}
+use Rattle.keel_region.specs.Slots.{KeepsNodes}
+use Rattle.keel_region.specs.Spans.{bytes_at}
+use Rattle.keel_region.specs.Trees.{Tree, Leaf, root_of, walk, Stands, tree_at, HasTree, IsIndex, Makes, put_in}
 use Rattle.keel_region.proofs.Growing.{tree_is, unfold_none}
 use Rattle.keel_region.proofs.Planting.{own_test, put_order, has_place}
 use Rattle.keel_region.proofs.Trees.{stay}
@@ -47,7 +47,6 @@ module _ (bytes : List ℕ) (old new : List (Option Node)) (spare : ℕ) (root :
     (order : AreInOrder bytes (walk (tree_at old root))) (fresh : IsNew bytes (walk (tree_at old root)) entry) (next : ℕ) (result : Slot)
     (room : next + 1 ≡ spare) (size : length new ≡ length old)
     (makes : Makes old new (put_in (own_test bytes entry) entry (walk (tree_at old root))) (Some result)) where
-
   pub put_is : IsPutIn (walk (tree_at old root)) (put_in (own_test bytes entry) entry (walk (tree_at old root))) entry
   put_is =
       let has = has_place bytes (bytes_at bytes entry.key) (Some entry.seq) (walk (tree_at old root)) order in

@@ -1,7 +1,7 @@
 -- An entry put in: at its place in the list, and in the tree.
-use Rattle.std.proofs.Common.{◌≡◌, ◌≢◌, ℕ, zero, suc, ◌+◌, ◌-◌, ◌<◌, ◌≤◌, Bool, true, false, List, [], ◌∷◌, ◌++◌, length, get_or, Option, Some, None, refl, sym, ap, subst, ◌∙◌, arith}
-use Rattle.std.specs.Prelude.{All, Contains, insert, if◌then◌else◌}
-use Rattle.std.proofs.lemmas.List.{get_or_default, get_or_append_left, get_or-append-add, length-append}
+use Rattle.std.proofs.Common.{◌≡◌, ◌≢◌, ℕ, zero, suc, ◌<◌, ◌≤◌, Bool, true, false, List, [], ◌∷◌, ◌++◌, length, get_or, Option, Some, None, refl, sym, ap, subst, ◌∙◌, arith}
+use Rattle.std.specs.Prelude.{insert}
+use Rattle.std.proofs.lemmas.List.{get_or_default}
 use Rattle.keel_region.specs.declared.span.IndexEntry.{IndexEntry}
 use Rattle.keel_region.specs.declared.pool.Node.{Node}
 use Rattle.keel_region.specs.declared.pool.Slot.{Slot}
@@ -9,7 +9,7 @@ use Rattle.keel_region.specs.Order.{Precedes, AreInOrder, IsNew, entry_before}
 use Rattle.keel_region.specs.Places.{IsPlaceOf}
 use Rattle.keel_region.specs.Slots.{node_at}
 use Rattle.keel_region.specs.Spans.{bytes_at}
-use Rattle.keel_region.specs.Trees.{Tree, Leaf, Fork, root_of, walk, Stands, HasEntry, Makes, Joins, put_in}
+use Rattle.keel_region.specs.Trees.{Tree, Leaf, Fork, root_of, walk, Stands, Makes, Joins, put_in}
 use Rattle.keel_region.proofs.Adding.{put_in_order}
 use Rattle.keel_region.proofs.Halves.{fails_from}
 use Rattle.keel_region.proofs.Orders.{Precedes-before}

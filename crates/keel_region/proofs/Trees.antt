@@ -1,9 +1,9 @@
 -- Trees in a pool, as nodes are written: what stays, what is joined, and what turns.
-use Rattle.std.proofs.Common.{◌≡◌, ◌≢◌, ℕ, zero, suc, ◌+◌, ◌-◌, ◌<◌, ◌≤◌, Bool, true, false, List, [], ◌∷◌, ◌++◌, length, get_or, Option, Some, None, append_assoc, refl, sym, ap, subst, ◌∙◌, arith, inl, inr}
-use Rattle.std.specs.Prelude.{All, AllPairs, Contains, IsSome, is_some}
-use Rattle.std.proofs.lemmas.Bool.{cases_lt, false≢true}
+use Rattle.std.proofs.Common.{◌≡◌, ◌≢◌, ℕ, zero, suc, ◌+◌, List, [], ◌∷◌, ◌++◌, length, get_or, Option, Some, None, append_assoc, refl, sym, ap, subst, ◌∙◌, arith}
+use Rattle.std.specs.Prelude.{All, Contains}
+use Rattle.std.proofs.lemmas.Bool.{false≢true}
 use Rattle.std.proofs.lemmas.List.{get_or_default, get_or_append_left, get_or-append-add, length-append}
-use Rattle.std.proofs.lemmas.List.Elements.{Contains-append_left, Contains-append_right, Contains-append_cases}
+use Rattle.std.proofs.lemmas.List.Elements.{Contains-append_left, Contains-append_right}
 use Rattle.keel_region.specs.declared.span.IndexEntry.{IndexEntry}
 use Rattle.keel_region.specs.declared.pool.Node.{Node}
 use Rattle.keel_region.specs.declared.pool.Slot.{Slot}
@@ -11,7 +11,6 @@ use Rattle.keel_region.specs.Order.{Precedes, AreInOrder}
 use Rattle.keel_region.specs.Slots.{node_at}
 use Rattle.keel_region.specs.Spans.{bytes_at}
 use Rattle.keel_region.specs.Trees.{Tree, Leaf, Fork, root_of, walk, Stands, HasEntry, KeepsOthers, Makes, Joins, Turns}
-
 use Rattle.keel_region.proofs.Orders.{comes_before-itself}
 
 -- what holds of all holds of a part
@@ -54,10 +53,11 @@ cross_apart bytes xs ys order x a b =
 pub stay : (old new : List (Option Node)) (tree : Tree) → Stands old tree → ((place : ℕ) (node : Node) → node_at old place ≡ Some node → Contains (walk tree) node.entry → node_at new place ≡ Some node)
     → Stands new tree
 stay old new Leaf stands keep = tt
-stay old new (Fork place entry height left right) stands keep =
-    (keep place (record { entry = entry; left = root_of left; right = root_of right; height = height }) stands.0 (Contains-append_right (walk left) (entry ∷ walk right) entry (0, omega arith, refl)),
-     stay old new left stands.1 (λ p n e h. keep p n e (Contains-append_left (walk left) (entry ∷ walk right) n.entry h)),
-     stay old new right stands.2 (λ p n e h. keep p n e (Contains-append_right (walk left) (entry ∷ walk right) n.entry (Contains-append_right (entry ∷ []) (walk right) n.entry h))))
+stay old new (Fork place entry height left right) stands keep = (
+  keep place (record { entry = entry; left = root_of left; right = root_of right; height = height }) stands.0 (Contains-append_right (walk left) (entry ∷ walk right) entry (0, omega arith, refl)),
+  stay old new left stands.1 (λ p n e h. keep p n e (Contains-append_left (walk left) (entry ∷ walk right) n.entry h)),
+  stay old new right stands.2 (λ p n e h. keep p n e (Contains-append_right (walk left) (entry ∷ walk right) n.entry (Contains-append_right (entry ∷ []) (walk right) n.entry h))),
+)
 
 pub stands_still : (old new : List (Option Node)) (tree : Tree) (entries : List IndexEntry) → Stands old tree → KeepsOthers old new entries
     → ((x : IndexEntry) → Contains (walk tree) x → Contains entries x → ⊥) → Stands new tree
@@ -104,10 +104,12 @@ written old new place node height there others bytes left right stands_left root
     record {
       tree = Fork place node.entry height left right;
       rooted = refl;
-      stands = (there ∙ (λ i. Some (record { entry = node.entry; left = sym root_left i; right = sym root_right i; height = height })),
-          stands_still old new left (node.entry ∷ []) stands_left keeps
-          (λ x h g. front_apart bytes (walk left) (walk right) node.entry order x h (Contains-append_left (node.entry ∷ []) (walk right) x g)),
-          stands_still old new right (node.entry ∷ []) stands_right keeps (own_apart bytes (walk left) (walk right) node.entry order));
+      stands = (
+        there ∙ (λ i. Some (record { entry = node.entry; left = sym root_left i; right = sym root_right i; height = height })),
+        stands_still old new left (node.entry ∷ []) stands_left keeps
+            (λ x h g. front_apart bytes (walk left) (walk right) node.entry order x h (Contains-append_left (node.entry ∷ []) (walk right) x g)),
+        stands_still old new right (node.entry ∷ []) stands_right keeps (own_apart bytes (walk left) (walk right) node.entry order),
+      );
       is = refl;
       others = λ p n e out. keeps p n e (λ g. out (subst (Contains (walk left ++ node.entry ∷ walk right)) (in_one node.entry n.entry g) (middle node.entry (walk left) (walk right))));
     }

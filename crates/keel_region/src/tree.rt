@@ -214,7 +214,12 @@ pub(crate) fn insert_below(
         Some(slot) => match pool.get(slot) {
             None => unreachable!(),
             Some(node) => {
-                if is_before(region, &node.entry, region.bytes(entry.key), Some(entry.seq)) {
+                if is_before(
+                    region,
+                    &node.entry,
+                    region.bytes(entry.key),
+                    Some(entry.seq),
+                ) {
                     let right = insert_below(pool, region, node.right, entry);
                     balance(
                         pool,
@@ -302,7 +307,12 @@ pub(crate) fn behind(
         Some(slot) => match pool.get(slot) {
             None => unreachable!(),
             Some(node) => {
-                if is_before(region, entry, region.bytes(node.entry.key), Some(node.entry.seq)) {
+                if is_before(
+                    region,
+                    entry,
+                    region.bytes(node.entry.key),
+                    Some(node.entry.seq),
+                ) {
                     behind(pool, region, node.left, entry, Some(node.entry))
                 } else {
                     behind(pool, region, node.right, entry, best)

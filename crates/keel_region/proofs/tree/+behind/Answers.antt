@@ -1,4 +1,4 @@
-use Rattle.std.proofs.Common.{◌≡◌, ◌∙◌, ℕ, List, Option, Some, Bool, true, false, arith, sym, ap}
+use Rattle.std.proofs.Common.{◌≡◌, ◌∙◌, ℕ, List, Some, true, false, arith, sym, ap}
 use Rattle.keel_region.specs.Order.{entry_before}
 use Rattle.keel_region.specs.Spans.{bytes_at, IsHeld}
 use Rattle.keel_region.specs.Trees.{is_up_to}
@@ -14,17 +14,19 @@ pub behind-requires : goal.behind-requires
 behind-requires t c =
     let held = IsHeld c.args.region.now.bytes in
     let slots = c.args.pool.now.slots in
-    let there = sym c.in-Some-get.ensures in
-    (omega (arith, c.decreases, left_less held slots c.args.root c.in-Some.slot c.in-Some-get.node c.requires.tree c.in-Some.is there),
-    (has_left held slots c.args.root c.in-Some.slot c.in-Some-get.node c.requires.tree c.in-Some.is there, c.requires.own))
+    let there = sym c.in-Some-get.ensures in (
+      omega (arith, c.decreases, left_less held slots c.args.root c.in-Some.slot c.in-Some-get.node c.requires.tree c.in-Some.is there),
+      (has_left held slots c.args.root c.in-Some.slot c.in-Some-get.node c.requires.tree c.in-Some.is there, c.requires.own),
+    )
 
 pub behind-requires-else-is_before : goal.behind-requires-else-is_before
 behind-requires-else-is_before t c =
     let held = IsHeld c.args.region.now.bytes in
     let slots = c.args.pool.now.slots in
-    let there = sym c.in-Some-get.ensures in
-    (omega (arith, c.decreases, right_less held slots c.args.root c.in-Some.slot c.in-Some-get.node c.requires.tree c.in-Some.is there),
-    (has_right held slots c.args.root c.in-Some.slot c.in-Some-get.node c.requires.tree c.in-Some.is there, c.requires.own))
+    let there = sym c.in-Some-get.ensures in (
+      omega (arith, c.decreases, right_less held slots c.args.root c.in-Some.slot c.in-Some-get.node c.requires.tree c.in-Some.is there),
+      (has_right held slots c.args.root c.in-Some.slot c.in-Some-get.node c.requires.tree c.in-Some.is there, c.requires.own),
+    )
 
 pub returns-then-is_before : goal.returns-then-is_before
 returns-then-is_before t c = λ tree stands rooted.

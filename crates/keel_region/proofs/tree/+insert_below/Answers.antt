@@ -1,8 +1,8 @@
-use Rattle.std.proofs.Common.{◌≡◌, ◌∙◌, Option, Some, None, Bool, List, ℕ, true, false, arith, sym, ap, subst}
+use Rattle.std.proofs.Common.{◌≡◌, ◌∙◌, Option, Some, List, ℕ, true, false, arith, sym, ap, subst}
 use Rattle.keel_region.specs.declared.pool.Slot.{Slot}
 use Rattle.keel_region.specs.Order.{entry_before}
-use Rattle.keel_region.specs.Spans.{bytes_at, IsHeld}
-use Rattle.keel_region.proofs.Growing.{has_left, has_right, left_less, right_less, no_tree, own_held}
+use Rattle.keel_region.specs.Spans.{IsHeld}
+use Rattle.keel_region.proofs.Growing.{has_left, has_right, left_less, right_less, own_held}
 use Rattle.keel_region.proofs.Planting.{Puts, own_test, put_left, put_right, put_first}
 use Rattle.keel_region.proofs.tree.+insert_below.Goals as goal
 
@@ -14,17 +14,19 @@ pub insert_below-right-requires : goal.insert_below-right-requires
 insert_below-right-requires t c =
     let bytes = c.args.region.now.bytes in
     let old = c.args.pool.now.slots in
-    let there = sym c.in-Some-get.ensures in
-    (omega (arith, c.decreases, right_less (IsHeld bytes) old c.args.root c.in-Some.slot c.in-Some-get.node c.requires.tree c.in-Some.is there),
-    (c.requires.room, (has_right (IsHeld bytes) old c.args.root c.in-Some.slot c.in-Some-get.node c.requires.tree c.in-Some.is there, c.requires.own)))
+    let there = sym c.in-Some-get.ensures in (
+      omega (arith, c.decreases, right_less (IsHeld bytes) old c.args.root c.in-Some.slot c.in-Some-get.node c.requires.tree c.in-Some.is there),
+      (c.requires.room, (has_right (IsHeld bytes) old c.args.root c.in-Some.slot c.in-Some-get.node c.requires.tree c.in-Some.is there, c.requires.own)),
+    )
 
 pub insert_below-left-requires : goal.insert_below-left-requires
 insert_below-left-requires t c =
     let bytes = c.args.region.now.bytes in
     let old = c.args.pool.now.slots in
-    let there = sym c.in-Some-get.ensures in
-    (omega (arith, c.decreases, left_less (IsHeld bytes) old c.args.root c.in-Some.slot c.in-Some-get.node c.requires.tree c.in-Some.is there),
-    (c.requires.room, (has_left (IsHeld bytes) old c.args.root c.in-Some.slot c.in-Some-get.node c.requires.tree c.in-Some.is there, c.requires.own)))
+    let there = sym c.in-Some-get.ensures in (
+      omega (arith, c.decreases, left_less (IsHeld bytes) old c.args.root c.in-Some.slot c.in-Some-get.node c.requires.tree c.in-Some.is there),
+      (c.requires.room, (has_left (IsHeld bytes) old c.args.root c.in-Some.slot c.in-Some-get.node c.requires.tree c.in-Some.is there, c.requires.own)),
+    )
 
 pub returns-in-None-clause-puts : goal.returns-in-None-clause-puts
 returns-in-None-clause-puts t c =

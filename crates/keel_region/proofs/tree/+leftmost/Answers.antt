@@ -1,6 +1,4 @@
-use Rattle.std.proofs.Common.{◌≡◌, ◌∙◌, Option, Some, Bool, false, arith, sym, subst}
-use Rattle.keel_region.specs.declared.pool.Slot.{Slot}
-use Rattle.keel_region.specs.Trees.{Tree, Stands, root_of, walk, failing_or}
+use Rattle.std.proofs.Common.{◌∙◌, arith, sym}
 use Rattle.keel_region.proofs.Descending.{most_left}
 use Rattle.keel_region.proofs.Growing.{has_left, left_less}
 use Rattle.keel_region.proofs.tree.+leftmost.Goals as goal
@@ -8,9 +6,10 @@ use Rattle.keel_region.proofs.tree.+leftmost.Goals as goal
 pub leftmost-requires : goal.leftmost-requires
 leftmost-requires t c =
     let slots = c.args.pool.now.slots in
-    let there = sym c.in-Some-get.ensures in
-    (omega (arith, c.decreases, left_less (λ entry. Unit {0}) slots c.args.root c.in-Some.slot c.in-Some-get.node c.requires c.in-Some.is there),
-    has_left (λ entry. Unit {0}) slots c.args.root c.in-Some.slot c.in-Some-get.node c.requires c.in-Some.is there)
+    let there = sym c.in-Some-get.ensures in (
+      omega (arith, c.decreases, left_less (λ entry. Unit {0}) slots c.args.root c.in-Some.slot c.in-Some-get.node c.requires c.in-Some.is there),
+      has_left (λ entry. Unit {0}) slots c.args.root c.in-Some.slot c.in-Some-get.node c.requires c.in-Some.is there,
+    )
 
 pub returns-in-Some-get : goal.returns-in-Some-get
 returns-in-Some-get t c = λ tree stands rooted.

@@ -1,5 +1,4 @@
-use Rattle.std.proofs.Common.{◌≡◌, ◌∙◌, Option, Some, arith, sym, subst}
-use Rattle.keel_region.specs.declared.pool.Slot.{Slot}
+use Rattle.std.proofs.Common.{◌∙◌, arith, sym}
 use Rattle.keel_region.specs.Order.{entry_before}
 use Rattle.keel_region.specs.Spans.{IsHeld}
 use Rattle.keel_region.proofs.Descending.{go_left, go_right}
@@ -15,17 +14,19 @@ pub seek-requires : goal.seek-requires
 seek-requires t c =
     let held = IsHeld c.args.region.now.bytes in
     let slots = c.args.pool.now.slots in
-    let there = sym c.in-Some-get.ensures in
-    (omega (arith, c.decreases, right_less held slots c.args.root c.in-Some.slot c.in-Some-get.node c.requires c.in-Some.is there),
-    has_right held slots c.args.root c.in-Some.slot c.in-Some-get.node c.requires c.in-Some.is there)
+    let there = sym c.in-Some-get.ensures in (
+      omega (arith, c.decreases, right_less held slots c.args.root c.in-Some.slot c.in-Some-get.node c.requires c.in-Some.is there),
+      has_right held slots c.args.root c.in-Some.slot c.in-Some-get.node c.requires c.in-Some.is there,
+    )
 
 pub seek-requires-else-is_before : goal.seek-requires-else-is_before
 seek-requires-else-is_before t c =
     let held = IsHeld c.args.region.now.bytes in
     let slots = c.args.pool.now.slots in
-    let there = sym c.in-Some-get.ensures in
-    (omega (arith, c.decreases, left_less held slots c.args.root c.in-Some.slot c.in-Some-get.node c.requires c.in-Some.is there),
-    has_left held slots c.args.root c.in-Some.slot c.in-Some-get.node c.requires c.in-Some.is there)
+    let there = sym c.in-Some-get.ensures in (
+      omega (arith, c.decreases, left_less held slots c.args.root c.in-Some.slot c.in-Some-get.node c.requires c.in-Some.is there),
+      has_left held slots c.args.root c.in-Some.slot c.in-Some-get.node c.requires c.in-Some.is there,
+    )
 
 pub returns-then-is_before : goal.returns-then-is_before
 returns-then-is_before t c = λ tree stands rooted.

@@ -1,4 +1,4 @@
-use Rattle.std.proofs.Common.{sym, ◌∙◌}
+use Rattle.std.proofs.Common.{sym}
 use Rattle.keel_region.proofs.Trees.{raised_right}
 use Rattle.keel_region.proofs.tree.raise_right.Goals as goal
 

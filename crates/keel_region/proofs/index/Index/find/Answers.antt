@@ -1,11 +1,11 @@
-use Rattle.std.proofs.Common.{◌≡◌, ℕ, true, false, List, Option, Some, None, subst, sym, ap, ◌∙◌}
+use Rattle.std.proofs.Common.{◌≡◌, ℕ, true, false, List, subst, sym, ap, ◌∙◌}
 use Rattle.std.specs.Prelude.{find}
 use Rattle.std.specs.Cmp.Lexicographic.{texts_ties}
 use Rattle.keel_base.specs.Keys.{key_eq}
-use Rattle.keel_region.specs.Order.{AreInOrder, has_key, entry_before}
+use Rattle.keel_region.specs.Order.{AreInOrder, has_key}
 use Rattle.keel_region.specs.Shown.{IndexShown}
 use Rattle.keel_region.specs.Spans.{AreHeld}
-use Rattle.keel_region.specs.Trees.{walk, tree_at, failing_or}
+use Rattle.keel_region.specs.Trees.{walk, tree_at}
 use Rattle.keel_region.proofs.Descending.{found_none, found_one, found_else, failing_held}
 use Rattle.keel_region.proofs.index.Index.find.Goals as goal
 

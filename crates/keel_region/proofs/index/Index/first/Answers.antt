@@ -1,4 +1,4 @@
-use Rattle.std.proofs.Common.{List, ap, ◌∙◌}
+use Rattle.std.proofs.Common.{ap, ◌∙◌}
 use Rattle.std.specs.Prelude.{slice_get}
 use Rattle.keel_region.specs.Shown.{IndexShown}
 use Rattle.keel_region.specs.Trees.{walk, tree_at}

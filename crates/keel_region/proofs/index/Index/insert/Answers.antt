@@ -1,9 +1,8 @@
-use Rattle.std.proofs.Common.{◌≡◌, ◌+◌, ◌<◌, ℕ, subst, sym, ap, ◌∙◌, Some, arith}
+use Rattle.std.proofs.Common.{subst, sym, Some}
 use Rattle.keel_region.specs.Order.{AreInOrder, IsNew, IsPutIn}
 use Rattle.keel_region.specs.Shown.{IndexShown}
-use Rattle.keel_region.specs.Trees.{walk, tree_at, put_in, Makes}
+use Rattle.keel_region.specs.Trees.{walk, tree_at}
 use Rattle.keel_region.proofs.Indexing.{put_index, put_entries, put_ordered}
-use Rattle.keel_region.proofs.Planting.{own_test}
 use Rattle.keel_region.proofs.index.Index.insert.Goals as goal
 
 pub invariant_of-self : goal.invariant_of-self
