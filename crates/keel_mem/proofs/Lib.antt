@@ -5,4 +5,5 @@ pub mod Newest
 pub mod Numbering
 pub mod Numbers
 pub mod Putting
+pub mod Stepping
 pub mod Weighing

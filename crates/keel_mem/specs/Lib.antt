@@ -1,6 +1,7 @@
 pub mod Finding
 pub mod Laws
 pub mod Needs
+pub mod Rest
 pub mod RowOrder
 pub mod RowShown
 pub mod Shown

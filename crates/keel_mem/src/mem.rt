@@ -209,7 +209,7 @@ impl Mem {
         ensures same { IsPermutation self.now.rows result }
         ensures limits { All IsRow result }
     {
-        MemRows::new(&self.region, self.index.entries())
+        MemRows::new(&self.region, &self.index)
     }
 
     /// What the rows weigh: the bytes of their keys and values, and 16 each.
@@ -217,7 +217,7 @@ impl Mem {
         ensures value { result ≡ weight_of self.now.rows }
         ensures bound { result ≤ most_weight }
     {
-        16 * self.index.entries().len() as u64 + self.region.len() as u64
+        16 * self.index.len() as u64 + self.region.len() as u64
     }
 
     /// The least sequence number, or 0 where there is no row.

@@ -5,21 +5,11 @@ use Rattle.std.proofs.lemmas.Bool.{cases_lt, false≢true}
 use Rattle.std.proofs.lemmas.List.{get_or_default}
 use Rattle.std.proofs.lemmas.List.Edits.{length-insert, get_or-insert_below, get_or-insert_at, get_or-insert_above}
 
--- what is in front of a place where a test holds passes it too
-pub holds_up_to : {X : Type 0} (R : X → X → Type 0) (test : X → Bool) (xs : List X) (at : ℕ) (x : X) → ((x y : X) → R x y → test y ≡ true → test x ≡ true)
-    → AllPairs R xs → at < length xs → test (get_or xs at x) ≡ true → (k : ℕ) (d : X) → k < at + 1 → test (get_or xs k d) ≡ true
-holds_up_to {X} R test xs at x down pairs within h k d lt =
-    let here : test (get_or xs at d) ≡ true = ap test (get_or_default xs at d x within) ∙ h in
-    elim (cases_lt k at) [
-      | inl less ↦ down (get_or xs k d) (get_or xs at d) (pairs k at d less within) here
-      | inr more ↦ let same : k ≡ at = omega arith in subst (λ (n : ℕ). test (get_or xs n d) ≡ true) (sym same) here
-    ]
-
 other : (b : Bool) → (b ≡ true → ⊥) → b ≡ false
 other true h = absurd (h refl)
 other false h = refl
 
--- and what is behind a place where it fails fails too
+-- what is behind a place where a test fails fails it too
 pub fails_from : {X : Type 0} (R : X → X → Type 0) (test : X → Bool) (xs : List X) (at : ℕ) (x : X) → ((x y : X) → R x y → test y ≡ true → test x ≡ true)
     → AllPairs R xs → test (get_or xs at x) ≡ false → (k : ℕ) (d : X) → at ≤ k → k < length xs → test (get_or xs k d) ≡ false
 fails_from {X} R test xs at x down pairs h k d le within =

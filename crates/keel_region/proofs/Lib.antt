@@ -1,5 +1,10 @@
 pub mod Adding
+pub mod Descending
+pub mod Growing
 pub mod Halves
+pub mod Indexing
 pub mod Orders
+pub mod Planting
 pub mod Seeking
+pub mod Trees
 pub mod Vacancies

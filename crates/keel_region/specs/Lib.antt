@@ -3,3 +3,4 @@ pub mod Places
 pub mod Shown
 pub mod Slots
 pub mod Spans
+pub mod Trees

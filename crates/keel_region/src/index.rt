@@ -1,28 +1,33 @@
-// Entries in order, whose room is taken first.
-ghost use Rattle.std.specs.Prelude.{◌≡◌, ℕ, ◌+◌, ◌<◌, ◌≤◌, [], length, slice_get, find, Contains, OnOk, OnErr, Some};
+// Entries in order, whose room is taken first: a search tree in a pool.
+ghost use Rattle.std.specs.Prelude.{◌≡◌, ℕ, ◌+◌, ◌<◌, ◌≤◌, ◌^◌, [], length, slice_get, find, Contains, OnOk, OnErr, Some};
 ghost use Rattle.keel_region.specs.Order.{AreInOrder, IsNew, IsPutIn, has_key};
 ghost use Rattle.keel_region.specs.Spans.{IsHeld, AreHeld};
 
+use crate::pool::{Pool, Slot};
 use crate::region::Region;
-use crate::search::place_of;
 use crate::span::IndexEntry;
+use crate::tree::{behind, insert_below, leftmost, seek};
 use keel_base::OutOfMemory;
 use std::alloc::Global;
 use std::marker::Model;
 
 /// Entries by key, and of one key the greatest sequence first. The keys' bytes stand in a region, which the calls are given.
+/// They stand in a balanced tree, so that a call that looks for a place takes time by the logarithm of their number.
 #[derive(Debug, Drop)]
 pub struct Index {
-    sorted: Vec<IndexEntry>,
+    pool: Pool,
+    root: Option<Slot>,
 }
 
 impl Model for Index {
-    ghost use Rattle.std.specs.Prelude.{◌-◌, vec_len, vec_capacity};
     ghost use Rattle.keel_region.specs.Shown.{IndexShown};
+    ghost use Rattle.keel_region.specs.Trees.{tree_at, walk, IsIndex};
 
     ghost Value = { IndexShown };
 
-    ghost view = { λ i. record { entries = i.sorted.items; spare = vec_capacity i.sorted - vec_len i.sorted } };
+    ghost view = { λ i. record { entries = walk (tree_at i.pool.slots i.root); spare = i.pool.spare } };
+
+    ghost invariant = { λ i. IsIndex i.pool.slots i.pool.spare i.root };
 }
 
 impl Index {
@@ -32,7 +37,8 @@ impl Index {
         ensures spare { result.spare ≡ 0 }
     {
         Index {
-            sorted: Vec::new(alloc),
+            pool: Pool::new(alloc),
+            root: None,
         }
     }
 
@@ -43,7 +49,7 @@ impl Index {
         ensures spare { self.old.spare ≤ self.new.spare }
         ensures err { OnErr result (self.new.spare ≡ self.old.spare) }
     {
-        self.sorted.reserve(n)?;
+        self.pool.reserve(n)?;
         Ok(())
     }
 
@@ -58,14 +64,8 @@ impl Index {
         ensures order { AreInOrder region.now.bytes self.new.entries }
         ensures spare { self.new.spare + 1 ≡ self.old.spare }
     {
-        let place = place_of(
-            region,
-            self.sorted.as_slice(),
-            region.bytes(entry.key),
-            Some(entry.seq),
-        );
-        // There is room, so that it can't be refused.
-        let _ = self.sorted.insert(place, entry);
+        let root = insert_below(&mut self.pool, region, self.root, entry);
+        self.root = Some(root);
     }
 
     /// The newest entry of that key.
@@ -74,10 +74,9 @@ impl Index {
         requires order { AreInOrder region.now.bytes self.now.entries }
         ensures { result ≡ find (has_key region.now.bytes key.now) self.now.entries }
     {
-        let entries = self.sorted.as_slice();
-        let entry = entries.get(place_of(region, entries, key, None))?;
+        let entry = seek(&self.pool, region, self.root, key, None, None)?;
         if region.bytes(entry.key) == key {
-            Some(*entry)
+            Some(entry)
         } else {
             None
         }
@@ -87,7 +86,7 @@ impl Index {
     pub fn first(&self) -> Option<IndexEntry>
         ensures { result ≡ slice_get self.now.entries 0 }
     {
-        self.sorted.first().copied()
+        leftmost(&self.pool, self.root, None)
     }
 
     /// The entry behind one that is there.
@@ -97,15 +96,14 @@ impl Index {
         requires there { Contains self.now.entries entry.now }
         ensures { (k : ℕ) → slice_get self.now.entries k ≡ Some entry.now → result ≡ slice_get self.now.entries (k + 1) }
     {
-        let entries = self.sorted.as_slice();
-        let place = place_of(region, entries, region.bytes(entry.key), Some(entry.seq));
-        entries.get(place + 1).copied()
+        behind(&self.pool, region, self.root, entry, None)
     }
 
-    /// The entries in their order.
-    pub fn entries(&self) -> &[IndexEntry]
-        ensures { result.now ≡ self.now.entries }
+    /// The number of entries.
+    pub fn len(&self) -> usize
+        ensures count { result ≡ length self.now.entries }
+        ensures bound { result < 2 ^ 57 }
     {
-        self.sorted.as_slice()
+        self.pool.taken()
     }
 }

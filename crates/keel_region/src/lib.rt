@@ -14,6 +14,7 @@ mod pool;
 mod region;
 mod search;
 mod span;
+mod tree;
 
 pub use index::Index;
 pub use pool::{Node, Pool, Slot};

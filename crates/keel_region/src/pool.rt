@@ -1,5 +1,5 @@
 // Nodes in slots, whose room is taken first.
-ghost use Rattle.std.specs.Prelude.{◌≡◌, ◌≢◌, ℕ, ◌+◌, ◌<◌, ◌≤◌, length, OnOk, OnErr, Some, None, IsSome, vec_len, vec_capacity};
+ghost use Rattle.std.specs.Prelude.{◌≡◌, ◌≢◌, ℕ, ◌+◌, ◌<◌, ◌≤◌, ◌^◌, length, OnOk, OnErr, Some, None, IsSome, vec_len, vec_capacity};
 ghost use Rattle.keel_region.specs.Slots.{node_at, IsPool, KeepsNodes};
 
 use crate::span::IndexEntry;
@@ -46,6 +46,7 @@ impl Pool {
     pub fn new(alloc: Global) -> Pool
         ensures nodes { (place : ℕ) → node_at result.slots place ≡ None }
         ensures spare { result.spare ≡ 0 }
+        ensures length { length result.slots ≡ 0 }
     {
         Pool {
             nodes: Vec::new(alloc),
@@ -59,6 +60,7 @@ impl Pool {
         ensures ok { OnOk result (n ≤ self.new.spare) }
         ensures spare { self.old.spare ≤ self.new.spare }
         ensures err { OnErr result (self.new ≡ self.old) }
+        ensures length { length self.new.slots + self.old.spare ≡ length self.old.slots + self.new.spare }
     {
         let more = n.saturating_sub(self.free.len());
         self.nodes.reserve(more)?;
@@ -77,11 +79,41 @@ impl Pool {
         ensures taken { node_at self.new.slots result.place ≡ Some node }
         ensures others { (place : ℕ) → place ≢ result.place → node_at self.new.slots place ≡ node_at self.old.slots place }
         ensures spare { self.new.spare + 1 ≡ self.old.spare }
+        ensures length { length self.new.slots ≡ length self.old.slots }
     {
         let place = self.free[self.free.len() - 1];
         self.free.truncate(self.free.len() - 1);
         self.nodes[place] = Some(node);
         Slot { place }
+    }
+
+    /// How many slots are taken.
+    pub fn taken(&self) -> usize
+        ensures count { result + self.now.spare ≡ length self.now.slots }
+        ensures bound { result < 2 ^ 57 }
+    {
+        self.nodes.as_slice().len() - self.free.len()
+    }
+
+    /// The node of a slot, none where it isn't taken.
+    pub fn get(&self, slot: Slot) -> Option<Node>
+        ensures { result ≡ node_at self.now.slots slot.place }
+    {
+        match self.nodes.get(slot.place) {
+            None => None,
+            Some(node) => *node,
+        }
+    }
+
+    /// Puts another node into a slot that is taken.
+    pub fn put(&mut self, slot: Slot, node: Node)
+        requires { IsSome (node_at self.old.slots slot.place) }
+        ensures node { node_at self.new.slots slot.place ≡ Some node }
+        ensures others { (place : ℕ) → place ≢ slot.place → node_at self.new.slots place ≡ node_at self.old.slots place }
+        ensures spare { self.new.spare ≡ self.old.spare }
+        ensures length { length self.new.slots ≡ length self.old.slots }
+    {
+        self.nodes[slot.place] = Some(node);
     }
 
     /// The node of a slot that is taken. The slot isn't taken any more.

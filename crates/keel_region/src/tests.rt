@@ -45,13 +45,28 @@ fn entries_go_by_key_and_the_newest_first(rt: HostRuntime) -> Result<(), Fail> {
         value: b,
     };
     index.insert(&region, newest);
-    assert_eq!(rt; index.entries(), [newest].as_slice());
+    assert_eq!(rt; index.len(), 1);
     assert_eq!(rt; index.first(), Some(newest));
     assert_eq!(rt; index.find(&region, b"a"), Some(newest));
     assert_eq!(rt; index.find(&region, b"b"), None);
     assert_eq!(rt; index.after(&region, &newest), None);
+    Ok(())
+}
+
+#[test]
+fn a_slot_is_handed_out_once(rt: HostRuntime) -> Result<(), Fail> {
+    let span = Span {
+        start: 0,
+        length: 0,
+    };
+    let entry = IndexEntry {
+        seq: 1,
+        kind: Kind::Put,
+        key: span,
+        value: span,
+    };
     let node = Node {
-        entry: newest,
+        entry,
         left: None,
         right: None,
         height: 1,
@@ -61,6 +76,10 @@ fn entries_go_by_key_and_the_newest_first(rt: HostRuntime) -> Result<(), Fail> {
     let slot = pool.take(node);
     let other = pool.take(Node { height: 2, ..node });
     assert_ne!(rt; slot, other);
-    assert_eq!(rt; pool.give_back(slot), node);
+    assert_eq!(rt; pool.taken(), 2);
+    assert_eq!(rt; pool.get(slot), Some(node));
+    pool.put(slot, Node { height: 3, ..node });
+    assert_eq!(rt; pool.give_back(slot).height, 3);
+    assert_eq!(rt; pool.get(slot), None);
     Ok(())
 }

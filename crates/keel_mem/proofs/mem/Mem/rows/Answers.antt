@@ -13,7 +13,7 @@ use Rattle.keel_mem.proofs.mem.Mem.rows.Goals as goal
 pub returns-clause-order : goal.returns-clause-order
 returns-clause-order c =
     let bytes = c.self.inside.region.bytes in
-    subst AreInOrder (sym (c.new.ensures ∙ ap (rows_in bytes) c.entries.ensures)) (rows_in_order bytes c.self.inside.index.entries c.self.invariant.order)
+    subst AreInOrder (sym c.new.ensures) (rows_in_order bytes c.self.inside.index.entries c.self.invariant.order)
 
 pub returns-clause-same : goal.returns-clause-same
 returns-clause-same c =
@@ -22,11 +22,11 @@ returns-clause-same c =
     let arrived : rows_by_arrival bytes c.self.inside.index.entries ≡ c.args.self.now.rows = ap (λ (m : MemShown). m.rows) c.self.view_is in
     let back : IsPermutation (rows_by_arrival bytes c.self.inside.index.entries) rows = IsPermutation-sym rows _ (by_number-permutes rows) in
     let given : IsPermutation c.args.self.now.rows rows = subst (λ (l : List Row). IsPermutation l rows) arrived back in
-    subst (IsPermutation c.args.self.now.rows) (sym (c.new.ensures ∙ ap (rows_in bytes) c.entries.ensures)) given
+    subst (IsPermutation c.args.self.now.rows) (sym c.new.ensures) given
 
 pub returns-clause-limits : goal.returns-clause-limits
 returns-clause-limits c =
     let bytes = c.self.inside.region.bytes in
     let rows = rows_in bytes c.self.inside.index.entries in
-    subst (All IsRow) (sym (c.new.ensures ∙ ap (rows_in bytes) c.entries.ensures))
+    subst (All IsRow) (sym c.new.ensures)
     (All-permutation IsRow (rows_by_arrival bytes c.self.inside.index.entries) rows (IsPermutation-sym rows _ (by_number-permutes rows)) c.self.invariant.limits)

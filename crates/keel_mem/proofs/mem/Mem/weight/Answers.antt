@@ -1,4 +1,4 @@
-use Rattle.std.proofs.Common.{◌+◌, ◌*◌, List, length, ap, ◌∙◌}
+use Rattle.std.proofs.Common.{ℕ, ◌+◌, ◌*◌, List, length, ap, ◌∙◌}
 use Rattle.keel_region.specs.declared.span.IndexEntry.{IndexEntry}
 use Rattle.keel_mem.specs.Shown.{MemShown}
 use Rattle.keel_mem.specs.Totals.{weight_of}
@@ -7,6 +7,6 @@ use Rattle.keel_mem.proofs.mem.Mem.weight.Goals as goal
 
 pub returns-clause-value : goal.returns-clause-value
 returns-clause-value c =
-    ap (λ (es : List IndexEntry). 16 * length es + c.len.result) c.entries.ensures
-    ∙ weighs c.self.inside.region.bytes c.self.inside.index.entries c.len.result (c.len.ensures.count ∙ c.self.invariant.total)
+    ap (λ (n : ℕ). 16 * n + c.len-2.result) c.len.ensures.count
+    ∙ weighs c.self.inside.region.bytes c.self.inside.index.entries c.len-2.result (c.len-2.ensures.count ∙ c.self.invariant.total)
     ∙ ap (λ (m : MemShown). weight_of m.rows) c.self.view_is

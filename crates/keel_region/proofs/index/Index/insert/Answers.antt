@@ -1,28 +1,45 @@
-use Rattle.std.proofs.Common.{◌≡◌, ℕ, Bool, true, cond, List, subst, sym, Some, ◌∙◌, ap, arith}
-use Rattle.std.specs.Prelude.{insert}
-use Rattle.std.specs.Result.{is_ok}
-use Rattle.keel_region.specs.declared.span.IndexEntry.{IndexEntry}
-use Rattle.keel_region.specs.Order.{AreInOrder, entry_before}
-use Rattle.keel_region.specs.Places.{IsPlaceOf}
+use Rattle.std.proofs.Common.{subst, sym, Some}
+use Rattle.keel_region.specs.Order.{AreInOrder, IsNew, IsPutIn}
 use Rattle.keel_region.specs.Shown.{IndexShown}
-use Rattle.keel_region.specs.Spans.{bytes_at}
-use Rattle.keel_region.proofs.Adding.{put_in_order}
+use Rattle.keel_region.specs.Trees.{walk, tree_at}
+use Rattle.keel_region.proofs.Indexing.{put_index, put_entries, put_ordered}
 use Rattle.keel_region.proofs.index.Index.insert.Goals as goal
+
+pub invariant_of-self : goal.invariant_of-self
+invariant_of-self c =
+    let bytes = c.args.region.now.bytes in
+    let entry = c.args.entry in
+    let old = c.self.inside.pool.slots in
+    let root = c.self.inside.root in
+    let order : AreInOrder bytes (walk (tree_at old root)) = subst (λ (s : IndexShown). AreInOrder bytes s.entries) (sym c.self.view_is) c.requires.order in
+    let fresh : IsNew bytes (walk (tree_at old root)) entry = subst (λ (s : IndexShown). IsNew bytes s.entries entry) (sym c.self.view_is) c.requires.fresh in
+    put_index bytes old c.insert_below-root.new.pool.slots c.self.inside.pool.spare root entry c.self.invariant order fresh
+    c.insert_below-root.new.pool.spare c.insert_below-root.result c.insert_below-root.ensures.spare c.insert_below-root.ensures.length
+    (c.insert_below-root.ensures.puts (tree_at old root) c.self.invariant.stands c.self.invariant.rooted order fresh)
+
+pub returns-clause-entries : goal.returns-clause-entries
+returns-clause-entries c =
+    let bytes = c.args.region.now.bytes in
+    let entry = c.args.entry in
+    let old = c.self.inside.pool.slots in
+    let new = c.insert_below-root.new.pool.slots in
+    let root = c.self.inside.root in
+    let order : AreInOrder bytes (walk (tree_at old root)) = subst (λ (s : IndexShown). AreInOrder bytes s.entries) (sym c.self.view_is) c.requires.order in
+    let fresh : IsNew bytes (walk (tree_at old root)) entry = subst (λ (s : IndexShown). IsNew bytes s.entries entry) (sym c.self.view_is) c.requires.fresh in
+    subst (λ (s : IndexShown). IsPutIn s.entries (walk (tree_at new (Some c.insert_below-root.result))) entry) c.self.view_is
+    (put_entries bytes old new c.self.inside.pool.spare root entry c.self.invariant order fresh
+    c.insert_below-root.new.pool.spare c.insert_below-root.result c.insert_below-root.ensures.spare c.insert_below-root.ensures.length
+    (c.insert_below-root.ensures.puts (tree_at old root) c.self.invariant.stands c.self.invariant.rooted order fresh))
 
 pub returns-clause-order : goal.returns-clause-order
 returns-clause-order c =
     let bytes = c.args.region.now.bytes in
-    let place = c.place_of-place.result in
     let entry = c.args.entry in
-    let entries = c.args.self.now.entries in
-    let all = ap (λ (s : IndexShown). s.entries) c.self.view_is in
-    let room = ap (λ (s : IndexShown). s.spare) c.self.view_is in
-    let ok : is_ok c.insert.result ≡ true = c.insert.ensures.succeeds (omega (arith, room, c.requires.room)) in
-    let is : c.insert.new.self.items ≡ insert entries place entry =
-    c.insert.ensures.items ∙ ap (λ (b : Bool). cond b (insert c.self.inside.sorted.items place entry) c.self.inside.sorted.items) ok
-    ∙ ap (λ (xs : List IndexEntry). insert xs place entry) all in
-    let seen : IsPlaceOf (entry_before bytes c.bytes.result.now (Some entry.seq)) entries place =
-    subst (λ (xs : List IndexEntry). IsPlaceOf (entry_before bytes c.bytes.result.now (Some entry.seq)) xs place) (c.as_slice.ensures.value ∙ all) c.place_of-place.ensures in
-    let at : IsPlaceOf (entry_before bytes (bytes_at bytes entry.key) (Some entry.seq)) entries place =
-    subst (λ (key : List ℕ). IsPlaceOf (entry_before bytes key (Some entry.seq)) entries place) c.bytes.ensures seen in
-    subst (AreInOrder bytes) (sym is) (put_in_order bytes entries entry place c.requires.order c.requires.fresh at)
+    let old = c.self.inside.pool.slots in
+    let new = c.insert_below-root.new.pool.slots in
+    let root = c.self.inside.root in
+    let order : AreInOrder bytes (walk (tree_at old root)) = subst (λ (s : IndexShown). AreInOrder bytes s.entries) (sym c.self.view_is) c.requires.order in
+    let fresh : IsNew bytes (walk (tree_at old root)) entry = subst (λ (s : IndexShown). IsNew bytes s.entries entry) (sym c.self.view_is) c.requires.fresh in
+    put_ordered bytes old new c.self.inside.pool.spare root entry c.self.invariant order fresh
+    c.insert_below-root.new.pool.spare c.insert_below-root.result c.insert_below-root.ensures.spare c.insert_below-root.ensures.length
+    (c.insert_below-root.ensures.puts (tree_at old root) c.self.invariant.stands c.self.invariant.rooted order fresh)

@@ -1,0 +1,6 @@
+use Rattle.keel_region.proofs.Trees.{written}
+use Rattle.keel_region.proofs.tree.write.Goals as goal
+
+pub returns-clause-joins : goal.returns-clause-joins
+returns-clause-joins c =
+    written c.args.pool.now.slots c.put.new.self.slots c.args.slot.place c.args.node c.saturating_add.result c.put.ensures.node c.put.ensures.others
