@@ -1,5 +1,4 @@
-use Rattle.std.proofs.Common.{ℕ, ◌+◌, ◌*◌, List, length, ap, ◌∙◌}
-use Rattle.keel_region.specs.declared.span.IndexEntry.{IndexEntry}
+use Rattle.std.proofs.Common.{ℕ, ◌+◌, ◌*◌, ap, ◌∙◌}
 use Rattle.keel_mem.specs.Shown.{MemShown}
 use Rattle.keel_mem.specs.Totals.{weight_of}
 use Rattle.keel_mem.proofs.Putting.{weighs}

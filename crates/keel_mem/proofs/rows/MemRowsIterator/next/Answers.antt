@@ -1,7 +1,6 @@
-use Rattle.std.proofs.Common.{◌≡◌, ◌-◌, ◌∷◌, List, [], Option, None, sym, ap, subst, ◌∙◌}
+use Rattle.std.proofs.Common.{◌≡◌, ◌-◌, ◌∷◌, List, [], Option, sym, ap, subst, ◌∙◌}
 use Rattle.std.specs.Iterator.{YieldsFirstBy}
 use Rattle.keel_base.specs.declared.row.Row.{Row}
-use Rattle.keel_region.specs.declared.span.IndexEntry.{IndexEntry}
 use Rattle.keel_mem.specs.declared.rows.MemRow.{MemRow}
 use Rattle.keel_mem.specs.Rest.{rest_of}
 use Rattle.keel_mem.specs.RowShown.{row_shown}
