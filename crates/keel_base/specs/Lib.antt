@@ -3,6 +3,7 @@ pub mod Keys
 pub mod Name
 pub mod Options
 pub mod Points
+pub mod Prefixes
 pub mod Reserving
 pub mod Rows
 pub mod Streams

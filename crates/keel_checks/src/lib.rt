@@ -8,3 +8,5 @@
 mod deletions;
 #[cfg(test)]
 mod engine;
+#[cfg(test)]
+mod manifests;

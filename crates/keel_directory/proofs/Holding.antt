@@ -7,25 +7,25 @@ use Rattle.keel_base.specs.Points.{Point}
 use Rattle.keel_base.specs.declared.file_name.FileName.TheVariants.{Manifest, Current}
 use Rattle.keel_disk.specs.Directory.{Named, find}
 use Rattle.keel_version.specs.Tables.{Contents}
-use Rattle.keel_directory.specs.declared.answer.ReadError.{ReadError}
+use Rattle.keel_directory.specs.declared.answer.DirectoryRefusal.{DirectoryRefusal}
 use Rattle.keel_directory.specs.declared.answer.Held.{Held}
 use Rattle.keel_directory.specs.Manifests.{CurrentIs, ManifestIs}
 use Rattle.keel_directory.specs.TableFiles.{TablesAre}
 use Rattle.keel_directory.specs.Replays.{Replay, LogsAre, replayed_rows}
-use Rattle.keel_directory.specs.Reading.{Found, IsReading, WithCurrent, held, refused, without_current, first_used}
+use Rattle.keel_directory.specs.Reading.{StoreRead, IsReading, WithCurrent, held, refused, without_current, first_used}
 use Rattle.keel_directory.specs.Answers.{Names, HoldsAs, IsHeld, ArePairsOf, TableRowsAre}
 use Rattle.keel_directory.proofs.Replaying.{named}
 
-pub handed_on : {A : Type 0} (r : Result A ReadError) (e : ReadError) → IsErr r × IsErrAnd r (λ other. other ≡ e) → r ≡ Err e
+pub handed_on : {A : Type 0} (r : Result A DirectoryRefusal) (e : DirectoryRefusal) → IsErr r × IsErrAnd r (λ other. other ≡ e) → r ≡ Err e
 handed_on (Ok x) e h = absurd h.1
-handed_on {A} (Err other) e h = ap (λ (error : ReadError). Err error) h.1
+handed_on {A} (Err other) e h = ap (λ (error : DirectoryRefusal). Err error) h.1
 
 -- ---- each part is read where no part before it is refused
 
-pub current_refused : (image : Named (List ℕ)) (current : List ℕ) (e : ReadError) → Names e (λ refusal. CurrentIs current (Err refusal)) → HoldsAs image current (Err e)
+pub current_refused : (image : Named (List ℕ)) (current : List ℕ) (e : DirectoryRefusal) → Names e (λ refusal. CurrentIs current (Err refusal)) → HoldsAs image current (Err e)
 current_refused image current e h = named e (λ refusal is. (Err refusal, is, refl)) h
 
-pub manifest_refused : (image : Named (List ℕ)) (current : List ℕ) (number : ℕ) (e : ReadError) → CurrentIs current (Ok number) → Names e (λ refusal. ManifestIs (find (Manifest number) image) (Err refusal))
+pub manifest_refused : (image : Named (List ℕ)) (current : List ℕ) (number : ℕ) (e : DirectoryRefusal) → CurrentIs current (Ok number) → Names e (λ refusal. ManifestIs (find (Manifest number) image) (Err refusal))
     → HoldsAs image current (Err e)
 manifest_refused image current number e names h = named e (λ refusal is. (Ok number, names, (Err refusal, is, refl))) h
 
@@ -34,11 +34,11 @@ pub record HasVersion (image : Named (List ℕ)) (current : List ℕ) (number : 
   pub names : CurrentIs current (Ok number)
   pub gives : ManifestIs (find (Manifest number) image) (Ok version)
 
-pub tables_refused : (image : Named (List ℕ)) (current : List ℕ) (number : ℕ) (version : Contents) (e : ReadError) → HasVersion image current number version
+pub tables_refused : (image : Named (List ℕ)) (current : List ℕ) (number : ℕ) (version : Contents) (e : DirectoryRefusal) → HasVersion image current number version
     → Names e (λ refusal. TablesAre image version.tables (Err refusal)) → HoldsAs image current (Err e)
 tables_refused image current number version e v h = named e (λ refusal is. (Ok number, v.names, (Ok version, v.gives, (Err refusal, is, refl)))) h
 
-pub logs_refused : (image : Named (List ℕ)) (current : List ℕ) (number : ℕ) (version : Contents) (rows : List Row) (e : ReadError) → HasVersion image current number version
+pub logs_refused : (image : Named (List ℕ)) (current : List ℕ) (number : ℕ) (version : Contents) (rows : List Row) (e : DirectoryRefusal) → HasVersion image current number version
     → TableRowsAre image version.tables (Ok rows) → Names e (λ refusal. LogsAre image version.min_log version.last_seq (Err refusal)) → HoldsAs image current (Err e)
 logs_refused image current number version rows e v tables h =
     named e (λ refusal is. (Ok number, v.names, (Ok version, v.gives, (Ok tables.0, tables.1, (Err refusal, is, refl))))) h
@@ -58,12 +58,12 @@ holds image current version rows replay h v tables logs pairs same last =
 -- ---- the whole directory
 
 pub reads_held : (image : Named (List ℕ)) (current : List ℕ) (h : Held) → find Current image ≡ Some current → HoldsAs image current (Ok h)
-    → (found : Found) × (point : Point) × IsReading image (held found point) × IsHeld h found point
+    → (found : StoreRead) × (point : Point) × IsReading image (held found point) × IsHeld h found point
 unfolding IsReading
 reads_held image current h there is =
     (is.0, is.1, subst (λ (bytes : Option (List ℕ)). WithCurrent image bytes (held is.0 is.1)) (sym there) (Ok is.0, is.2, is.3), is.4)
 
-pub reads_refused : (image : Named (List ℕ)) (current : List ℕ) (e : ReadError) → find Current image ≡ Some current → HoldsAs image current (Err e) → Names e (λ refusal. IsReading image (refused refusal))
+pub reads_refused : (image : Named (List ℕ)) (current : List ℕ) (e : DirectoryRefusal) → find Current image ≡ Some current → HoldsAs image current (Err e) → Names e (λ refusal. IsReading image (refused refusal))
 unfolding IsReading
 reads_refused image current e there is =
     named e (λ refusal found. subst (λ (bytes : Option (List ℕ)). WithCurrent image bytes (refused refusal)) (sym there) (Err refusal, found, refl)) is

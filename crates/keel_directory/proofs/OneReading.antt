@@ -16,7 +16,7 @@ use Rattle.keel_directory.specs.Manifests.{CurrentIs, ManifestIs, version_of}
 use Rattle.keel_directory.specs.TableFiles.{TableFile, open_sized, Opens, AllOpen, TablesGive, refusal_of}
 use Rattle.keel_directory.specs.declared.logs.LogFile.{LogFile}
 use Rattle.keel_directory.specs.Replays.{ReadLog, AreRead, Replay, LogsAre, logs_from, replay}
-use Rattle.keel_directory.specs.Reading.{Found, LogsOf, TablesOf, VersionOf, ManifestOf, FoundBy, Reading, new, held, refused, PointOf, WithCurrent, IsReading, all_rows}
+use Rattle.keel_directory.specs.Reading.{StoreRead, LogsOf, TablesOf, VersionOf, ManifestOf, FoundBy, Reading, new, held, refused, PointOf, WithCurrent, IsReading, all_rows}
 
 abbrev some : {A : Type 0} → A → Option A
 some x = Some x
@@ -93,31 +93,31 @@ tables_one None image tables (Ok ts) (Ok us) h k = ap (λ (x : List TableFile). 
 
 -- ---- the parts one behind the other
 
-logs_of_one : (image : Named (List ℕ)) (m : ℕ) (v : Contents) (tables : List TableFile) (logs : Result Replay Refusal) (a b : Result Found Refusal)
+logs_of_one : (image : Named (List ℕ)) (m : ℕ) (v : Contents) (tables : List TableFile) (logs : Result Replay Refusal) (a b : Result StoreRead Refusal)
     → LogsOf image m v tables logs a → LogsOf image m v tables logs b → a ≡ b
 logs_of_one image m v tables (Ok logs) a b h k = h ∙ sym k
 logs_of_one image m v tables (Err r) a b h k = h ∙ sym k
 
-tables_of_one : (image : Named (List ℕ)) (m : ℕ) (v : Contents) (tables : Result (List TableFile) Refusal) (a b : Result Found Refusal)
+tables_of_one : (image : Named (List ℕ)) (m : ℕ) (v : Contents) (tables : Result (List TableFile) Refusal) (a b : Result StoreRead Refusal)
     → TablesOf image m v tables a → TablesOf image m v tables b → a ≡ b
 tables_of_one image m v (Err r) a b h k = h ∙ sym k
 tables_of_one image m v (Ok tables) a b h k =
     let same = replay_one image v.min_log v.last_seq h.0 k.0 h.1 k.1 in
     logs_of_one image m v tables k.0 a b (subst (λ (x : Result Replay Refusal). LogsOf image m v tables x a) same h.2) k.2
 
-version_of_one : (image : Named (List ℕ)) (m : ℕ) (v : Result Contents Refusal) (a b : Result Found Refusal) → VersionOf image m v a → VersionOf image m v b → a ≡ b
+version_of_one : (image : Named (List ℕ)) (m : ℕ) (v : Result Contents Refusal) (a b : Result StoreRead Refusal) → VersionOf image m v a → VersionOf image m v b → a ≡ b
 version_of_one image m (Err r) a b h k = h ∙ sym k
 version_of_one image m (Ok v) a b h k =
     let same = tables_one (refusal_of image v.tables) image v.tables h.0 k.0 h.1 k.1 in
     tables_of_one image m v k.0 a b (subst (λ (x : Result (List TableFile) Refusal). TablesOf image m v x a) same h.2) k.2
 
-manifest_of_one : (image : Named (List ℕ)) (m : Result ℕ Refusal) (a b : Result Found Refusal) → ManifestOf image m a → ManifestOf image m b → a ≡ b
+manifest_of_one : (image : Named (List ℕ)) (m : Result ℕ Refusal) (a b : Result StoreRead Refusal) → ManifestOf image m a → ManifestOf image m b → a ≡ b
 manifest_of_one image (Err r) a b h k = h ∙ sym k
 manifest_of_one image (Ok m) a b h k =
     let same = version_one (find (Manifest m) image) h.0 k.0 h.1 k.1 in
     version_of_one image m k.0 a b (subst (λ (x : Result Contents Refusal). VersionOf image m x a) same h.2) k.2
 
-found_one : (image : Named (List ℕ)) (current : List ℕ) (a b : Result Found Refusal) → FoundBy image current a → FoundBy image current b → a ≡ b
+found_one : (image : Named (List ℕ)) (current : List ℕ) (a b : Result StoreRead Refusal) → FoundBy image current a → FoundBy image current b → a ≡ b
 found_one image current a b h k =
     let same = current_one current h.0 k.0 h.1 k.1 in
     manifest_of_one image k.0 a b (subst (λ (x : Result ℕ Refusal). ManifestOf image x a) same h.2) k.2
@@ -127,10 +127,10 @@ found_one image current a b h k =
 map_one : (rows : List Row) (m n : Values) → IsMapOf rows m → IsMapOf rows n → m ≡ n
 map_one rows m n h k = same_map nat_list_cmp_total (slice_cmp-IsAntisymmetric nat_cmp-IsAntisymmetric) m n (λ key. h key ∙ sym (k key))
 
-held_is : (f g : Found) (p q : Point) → f ≡ g → p.values ≡ q.values → p.seq ≡ q.seq → held f p ≡ held g q
+held_is : (f g : StoreRead) (p q : Point) → f ≡ g → p.values ≡ q.values → p.seq ≡ q.seq → held f p ≡ held g q
 held_is f g p q e v s = λ i. held (e i) (record { values = v i; seq = s i })
 
-point_one : (answer : Result Found Refusal) (a b : Reading) → PointOf answer a → PointOf answer b → a ≡ b
+point_one : (answer : Result StoreRead Refusal) (a b : Reading) → PointOf answer a → PointOf answer b → a ≡ b
 point_one (Ok found) new b h k = absurd h
 point_one (Ok found) (refused r) b h k = absurd h
 point_one (Ok found) (held f p) new h k = absurd k
@@ -147,7 +147,7 @@ with_one : (image : Named (List ℕ)) (current : Option (List ℕ)) (a b : Readi
 with_one image None a b h k = h ∙ sym k
 with_one image (Some current) a b h k =
     let same = found_one image current h.0 k.0 h.1 k.1 in
-    point_one k.0 a b (subst (λ (x : Result Found Refusal). PointOf x a) same h.2) k.2
+    point_one k.0 a b (subst (λ (x : Result StoreRead Refusal). PointOf x a) same h.2) k.2
 
 pub reading_one : (image : Named (List ℕ)) (a b : Reading) → IsReading image a → IsReading image b → a ≡ b
 unfolding IsReading

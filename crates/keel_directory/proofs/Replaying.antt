@@ -7,14 +7,14 @@ use Rattle.keel_frag.specs.Reading.{AreRecords}
 use Rattle.keel_frag.proofs.Existing.{has_records}
 use Rattle.keel_directory.specs.declared.logs.LogFile.{LogFile}
 use Rattle.keel_directory.specs.declared.logs.Replayed.{Replayed}
-use Rattle.keel_directory.specs.declared.answer.ReadError.{ReadError}
-use Rattle.keel_directory.specs.declared.answer.ReadError.TheVariants as errors
+use Rattle.keel_directory.specs.declared.answer.DirectoryRefusal.{DirectoryRefusal}
+use Rattle.keel_directory.specs.declared.answer.DirectoryRefusal.TheVariants as errors
 use Rattle.keel_directory.specs.Refusals.{Refusal}
 use Rattle.keel_directory.specs.Replays.{ReadLog, AreRead, batches_of, all_batches}
 use Rattle.keel_directory.specs.Answers.{Names}
 
 -- what follows of the refusal that an error names
-pub named : {P Q : Refusal → Type 0} (e : ReadError) → ((refusal : Refusal) → P refusal → Q refusal) → Names e P → Names e Q
+pub named : {P Q : Refusal → Type 0} (e : DirectoryRefusal) → ((refusal : Refusal) → P refusal → Q refusal) → Names e P → Names e Q
 named (errors.NoCurrent file) f h = f _ h
 named (errors.BadCurrent bytes) f h = f _ h
 named (errors.DamagedManifest at) f h = f _ h

@@ -9,8 +9,9 @@ use Rattle.keel_disk.specs.State.{State, file_at, files_operated_all}
 use Rattle.keel_disk.specs.Image.{IsFileImage, AreImages, IsFirm, AllFirm, IsSettled}
 use Rattle.keel_disk.specs.Plain.{PlainImage, bytes_read, image_read}
 use Rattle.keel_directory.specs.Reading.{Reading, IsReading, HasPoint}
-use Rattle.keel_directory.specs.Sound.{IsSound}
-use Rattle.keel_directory.specs.Standing.{ReadsAs, Stands}
+use Rattle.keel_directory.specs.Sound.{IsSoundReading}
+use Rattle.keel_disk.specs.Standing.{ReadsIn}
+use Rattle.keel_directory.specs.Standing.{ReadsAs, StandsRead}
 
 take_whole : (n : ℕ) (xs : List ℕ) → length xs ≤ n → take n xs ≡ xs
 take_whole zero [] h = refl
@@ -47,20 +48,17 @@ image_one device image settled plain =
     images_one device.files device.firm image settled.firm images
     ∙ ap (λ (ops : List Operation). bytes_read device.files (operated_all ops device.firm)) (sym settled.none_waits)
 
-reads_as : (image : Named (List ℕ)) (reading : Reading) (point : Point) → IsReading image reading → IsSound reading → HasPoint reading point → ReadsAs point [] 0 image
-reads_as image reading point is sound has = record {
-  reading = reading;
-  is_read = is;
-  sound = sound;
-  point = point;
-  has = has;
-  prefix = record { count = 0; no_fewer = omega arith; no_more = omega arith; behind = refl };
-}
+reads_in : (image : Named (List ℕ)) (reading : Reading) (point : Point) → IsReading image reading → IsSoundReading reading → HasPoint reading point → ReadsIn ReadsAs point [] [] 0 image
+reads_in image reading point is sound has = (
+  point,
+  record { reading = reading; is_read = is; sound = sound; has = has },
+  record { count = 0; enough = omega arith; within = omega arith; point_is = refl },
+)
 
-pub settled_stands : (device : State) (reading : Reading) (point : Point) → IsSettled device → IsReading (image_read device) reading → IsSound reading → HasPoint reading point → Stands device point [] [] 0
+pub settled_stands : (device : State) (reading : Reading) (point : Point) → IsSettled device → IsReading (image_read device) reading → IsSoundReading reading → HasPoint reading point → StandsRead device point [] [] 0
 settled_stands device reading point settled is sound has =
-    let now = reads_as (image_read device) reading point is sound has in
+    let now = reads_in (image_read device) reading point is sound has in
     record {
-      crashed = λ image plain. subst (λ (i : Named (List ℕ)). ReadsAs point [] 0 i) (sym (image_one device image settled plain)) now;
+      images = λ image plain. subst (λ (i : Named (List ℕ)). ReadsIn ReadsAs point [] [] 0 i) (sym (image_one device image settled plain)) now;
       now = now;
     }

@@ -11,14 +11,14 @@ use Rattle.keel_edit.specs.declared.edit.Added.{Added}
 use Rattle.keel_table.specs.Opening.{Damage, bad_check, bad_shape}
 use Rattle.keel_directory.specs.declared.answer.Damaged.{Damaged}
 use Rattle.keel_directory.specs.declared.answer.Damaged.TheVariants as damaged
-use Rattle.keel_directory.specs.declared.answer.ReadError.{ReadError}
-use Rattle.keel_directory.specs.declared.answer.ReadError.TheVariants as errors
+use Rattle.keel_directory.specs.declared.answer.DirectoryRefusal.{DirectoryRefusal}
+use Rattle.keel_directory.specs.declared.answer.DirectoryRefusal.TheVariants as errors
 use Rattle.keel_directory.specs.declared.answer.Held.{Held}
 use Rattle.keel_directory.specs.declared.answer.Directory.{Directory}
 use Rattle.keel_directory.specs.declared.answer.Directory.TheVariants as directory
 use Rattle.keel_directory.specs.Refusals.{Refusal, no_current, bad_current, damaged_manifest, missing_table, bad_table, bad_log, log_gap}
 use Rattle.keel_directory.specs.TableFiles.{TableFile, TablesAre, table_rows}
-use Rattle.keel_directory.specs.Reading.{Found, FoundBy, PointOf, new, held, refused, IsReading}
+use Rattle.keel_directory.specs.Reading.{StoreRead, FoundBy, PointOf, new, held, refused, IsReading}
 
 -- the same damage
 abbrev pub damage_named : Damaged → Damage
@@ -26,7 +26,7 @@ damage_named (damaged.BadCheck stored computed) = bad_check stored computed
 damage_named (damaged.BadShape at) = bad_shape at
 
 -- of the refusal that an error names this holds; want of memory names none
-abbrev pub Names : ReadError → (Refusal → Type 0) → Type 0
+abbrev pub Names : DirectoryRefusal → (Refusal → Type 0) → Type 0
 Names (errors.NoCurrent file) Holds = Holds (no_current file)
 Names (errors.BadCurrent bytes) Holds = Holds (bad_current bytes)
 Names (errors.DamagedManifest at) Holds = Holds (damaged_manifest at)
@@ -37,7 +37,7 @@ Names (errors.LogGap log last found) Holds = Holds (log_gap log (last + 1) found
 Names errors.OutOfMemory Holds = Unit {0}
 
 -- of what was answered, seen by view, this holds, unless memory ran out
-abbrev pub Answers : {A B : Type 0} → (A → B) → (Result B Refusal → Type 0) → Result A ReadError → Type 0
+abbrev pub Answers : {A B : Type 0} → (A → B) → (Result B Refusal → Type 0) → Result A DirectoryRefusal → Type 0
 Answers view Holds (Ok x) = Holds (Ok (view x))
 Answers view Holds (Err e) = Names e (λ refusal. Holds (Err refusal))
 
@@ -66,23 +66,23 @@ is_over row None = true
 is_over row (Some other) = nat_le other.seq row.seq
 
 -- the manifest, version, map and last number of what was found
-pub record IsHeld (h : Held) (found : Found) (point : Point) : Type 0 where
+pub record IsHeld (h : Held) (found : StoreRead) (point : Point) : Type 0 where
   pub manifest : found.manifest ≡ h.manifest
   pub version : found.version ≡ h.version
   pub pairs : entries point.values ≡ h.pairs
   pub last : point.seq ≡ h.last
 
 -- what a directory whose CURRENT has these bytes holds, or why it isn't read
-abbrev pub HoldsAs : Named (List ℕ) → List ℕ → Result Held ReadError → Type 0
-HoldsAs image current (Ok h) = (found : Found) × (point : Point) × FoundBy image current (Ok found) × PointOf (Ok found) (held found point) × IsHeld h found point
+abbrev pub HoldsAs : Named (List ℕ) → List ℕ → Result Held DirectoryRefusal → Type 0
+HoldsAs image current (Ok h) = (found : StoreRead) × (point : Point) × FoundBy image current (Ok found) × PointOf (Ok found) (held found point) × IsHeld h found point
 HoldsAs image current (Err e) = Names e (λ refusal. FoundBy image current (Err refusal))
 
 -- the directory is read so
 abbrev pub Says : Named (List ℕ) → Directory → Type 0
 Says image directory.New = IsReading image new
-Says image (directory.Held h) = (found : Found) × (point : Point) × IsReading image (held found point) × IsHeld h found point
+Says image (directory.Held h) = (found : StoreRead) × (point : Point) × IsReading image (held found point) × IsHeld h found point
 
 -- what reading a directory answers is its reading, unless memory ran out
-abbrev pub Reads : Named (List ℕ) → Result Directory ReadError → Type 0
+abbrev pub Reads : Named (List ℕ) → Result Directory DirectoryRefusal → Type 0
 Reads image (Ok directory) = Says image directory
 Reads image (Err e) = Names e (λ refusal. IsReading image (refused refusal))

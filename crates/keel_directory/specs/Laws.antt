@@ -13,16 +13,16 @@ use Rattle.keel_edit.specs.declared.edit.Added.{Added}
 use Rattle.keel_directory.specs.declared.logs.LogFile.{LogFile}
 use Rattle.keel_directory.specs.TableFiles.{bytes_of, least}
 use Rattle.keel_directory.specs.Replays.{logs_from}
-use Rattle.keel_directory.specs.Reading.{Reading, Found, new, held, IsReading, HasPoint, is_used, first_used}
-use Rattle.keel_directory.specs.Sound.{IsSound}
-use Rattle.keel_directory.specs.Standing.{Stands}
+use Rattle.keel_directory.specs.Reading.{Reading, StoreRead, new, held, IsReading, HasPoint, is_used, first_used}
+use Rattle.keel_directory.specs.Sound.{IsSoundReading}
+use Rattle.keel_directory.specs.Standing.{StandsRead}
 
 -- A directory has one reading.
 abbrev pub OneReading : Type 0
 OneReading = (image : Named (List ℕ)) (a b : Reading) → IsReading image a → IsReading image b → a ≡ b
 
 -- two directories have the same bytes in every file that this reading needs
-pub record SameNeeded (f : Found) (a b : Named (List ℕ)) : Type 0 where
+pub record SameNeeded (f : StoreRead) (a b : Named (List ℕ)) : Type 0 where
   pub current : find Current a ≡ find Current b
   pub manifest : find (Manifest f.manifest) a ≡ find (Manifest f.manifest) b
   pub tables : AllByRecursion (λ t. bytes_of a t ≡ bytes_of b t) f.version.tables
@@ -31,7 +31,7 @@ pub record SameNeeded (f : Found) (a b : Named (List ℕ)) : Type 0 where
 -- A reading needs CURRENT, its manifest, the tables of its version and the logs from the least on that have a byte,
 -- and no other file.
 abbrev pub UnneededFiles : Type 0
-UnneededFiles = (a b : Named (List ℕ)) (f : Found) (point : Point) → IsReading a (held f point) → SameNeeded f a b → IsReading b (held f point)
+UnneededFiles = (a b : Named (List ℕ)) (f : StoreRead) (point : Point) → IsReading a (held f point) → SameNeeded f a b → IsReading b (held f point)
 
 -- Without CURRENT, tables, trash and logs with a byte a directory is that of a new store.
 abbrev pub NewStores : Type 0
@@ -41,8 +41,8 @@ NewStores = (image : Named (List ℕ)) → find Current image ≡ None → first
 abbrev pub SettledStands : Type 0
 SettledStands =
     (device : State) (reading : Reading) (point : Point)
-    → IsSettled device → IsReading (image_read device) reading → IsSound reading → HasPoint reading point
-    → Stands device point [] [] 0
+    → IsSettled device → IsReading (image_read device) reading → IsSoundReading reading → HasPoint reading point
+    → StandsRead device point [] [] 0
 
 -- ---- what is picked out of a directory
 

@@ -36,38 +36,38 @@ first_used (file ∷ rest) = if is_used file then earlier file.0 (first_used res
 -- ---- the parts of a store
 
 -- what a directory with CURRENT holds
-pub record Found : Type 0 where
+pub record StoreRead : Type 0 where
   pub manifest : ℕ
   pub version : Contents
   pub tables : List TableFile
   pub replay : Replay
 
 -- the rows of all tables and of all ops of the logs
-abbrev pub all_rows : Found → List Row
+abbrev pub all_rows : StoreRead → List Row
 all_rows f = flat_map table_rows f.tables ++ replayed_rows f.replay.batches
 
 -- each part is read where no part before it is refused
-abbrev pub LogsOf : Named (List ℕ) → ℕ → Contents → List TableFile → Result Replay Refusal → Result Found Refusal → Type 0
+abbrev pub LogsOf : Named (List ℕ) → ℕ → Contents → List TableFile → Result Replay Refusal → Result StoreRead Refusal → Type 0
 LogsOf image manifest version tables (Ok logs) answer = answer ≡ Ok (record { manifest = manifest; version = version; tables = tables; replay = logs })
 LogsOf image manifest version tables (Err refusal) answer = answer ≡ Err refusal
 
-abbrev pub TablesOf : Named (List ℕ) → ℕ → Contents → Result (List TableFile) Refusal → Result Found Refusal → Type 0
+abbrev pub TablesOf : Named (List ℕ) → ℕ → Contents → Result (List TableFile) Refusal → Result StoreRead Refusal → Type 0
 TablesOf image manifest version (Ok tables) answer =
     (logs : Result Replay Refusal) × LogsAre image version.min_log version.last_seq logs × LogsOf image manifest version tables logs answer
 TablesOf image manifest version (Err refusal) answer = answer ≡ Err refusal
 
-abbrev pub VersionOf : Named (List ℕ) → ℕ → Result Contents Refusal → Result Found Refusal → Type 0
+abbrev pub VersionOf : Named (List ℕ) → ℕ → Result Contents Refusal → Result StoreRead Refusal → Type 0
 VersionOf image manifest (Ok version) answer =
     (tables : Result (List TableFile) Refusal) × TablesAre image version.tables tables × TablesOf image manifest version tables answer
 VersionOf image manifest (Err refusal) answer = answer ≡ Err refusal
 
-abbrev pub ManifestOf : Named (List ℕ) → Result ℕ Refusal → Result Found Refusal → Type 0
+abbrev pub ManifestOf : Named (List ℕ) → Result ℕ Refusal → Result StoreRead Refusal → Type 0
 ManifestOf image (Ok manifest) answer =
     (version : Result Contents Refusal) × ManifestIs (find (Manifest manifest) image) version × VersionOf image manifest version answer
 ManifestOf image (Err refusal) answer = answer ≡ Err refusal
 
 -- what a directory whose CURRENT has these bytes holds
-abbrev pub FoundBy : Named (List ℕ) → List ℕ → Result Found Refusal → Type 0
+abbrev pub FoundBy : Named (List ℕ) → List ℕ → Result StoreRead Refusal → Type 0
 FoundBy image current answer = (manifest : Result ℕ Refusal) × CurrentIs current manifest × ManifestOf image manifest answer
 
 -- ---- the reading
@@ -76,11 +76,11 @@ pub data Reading : Type 0 where
   -- a new store
   new : Reading
   -- what the files hold, and the point that they lead to
-  held : Found → Point → Reading
+  held : StoreRead → Point → Reading
   refused : Refusal → Reading
 
 -- of all rows of a key the newest counts; the number is that of the last op
-abbrev pub PointOf : Result Found Refusal → Reading → Type 0
+abbrev pub PointOf : Result StoreRead Refusal → Reading → Type 0
 PointOf (Ok found) (held f point) = (f ≡ found) × IsMapOf (all_rows found) point.values × (point.seq ≡ found.replay.last)
 PointOf (Err refusal) (refused r) = r ≡ refusal
 PointOf _ _ = ⊥
@@ -92,7 +92,7 @@ without_current (Some name) = refused (no_current name)
 
 abbrev pub WithCurrent : Named (List ℕ) → Option (List ℕ) → Reading → Type 0
 WithCurrent image None reading = reading ≡ without_current (first_used image)
-WithCurrent image (Some current) reading = (answer : Result Found Refusal) × FoundBy image current answer × PointOf answer reading
+WithCurrent image (Some current) reading = (answer : Result StoreRead Refusal) × FoundBy image current answer × PointOf answer reading
 
 -- the directory is read so
 unfoldable pub IsReading : Named (List ℕ) → Reading → Type 0

@@ -3,14 +3,14 @@ use Rattle.std.specs.Prelude.{◌≡◌, ℕ, ◌<◌, ◌≤◌, true, List, []
 use Rattle.std.specs.List.{AllByRecursion}
 use Rattle.keel_base.specs.declared.row.Row.{Row}
 use Rattle.keel_base.specs.Keys.{key_eq}
-use Rattle.keel_table.specs.declared.index.IndexEntry.{IndexEntry}
+use Rattle.keel_table.specs.declared.index.BlockEntry.{BlockEntry}
 use Rattle.keel_table.specs.Spelling.{last_key}
 use Rattle.keel_table.specs.Opening.{block_found}
 use Rattle.keel_directory.specs.TableFiles.{TableFile, table_rows}
-use Rattle.keel_directory.specs.Reading.{Reading, Found, new, held, refused, all_rows}
+use Rattle.keel_directory.specs.Reading.{Reading, StoreRead, new, held, refused, all_rows}
 
 -- every block has its check and shape
-abbrev pub AreWhole : List ℕ → List ℕ → List IndexEntry → Type 0
+abbrev pub AreWhole : List ℕ → List ℕ → List BlockEntry → Type 0
 AreWhole bytes before [] = Unit {0}
 AreWhole bytes before (e ∷ es) = IsOk (block_found before e bytes) × AreWhole bytes e.last es
 
@@ -45,12 +45,12 @@ IsNewer a b = key_eq a.key b.key ≡ true → b.seq < a.seq
 abbrev pub AreLayered : TableFile → TableFile → Type 0
 AreLayered upper lower = upper.entry.level < lower.entry.level → AllByRecursion (λ a. AllByRecursion (IsNewer a) (table_rows lower)) (table_rows upper)
 
-pub record IsSoundly (found : Found) : Type 0 where
+pub record IsSoundly (found : StoreRead) : Type 0 where
   pub said : AllByRecursion (IsAsSaid found.version.last_seq) found.tables
   pub agree : AllAgree (all_rows found)
   pub layered : AllByRecursion (λ upper. AllByRecursion (AreLayered upper) found.tables) found.tables
 
-abbrev pub IsSound : Reading → Type 0
-IsSound new = Unit {0}
-IsSound (held found point) = IsSoundly found
-IsSound (refused refusal) = ⊥
+abbrev pub IsSoundReading : Reading → Type 0
+IsSoundReading new = Unit {0}
+IsSoundReading (held found point) = IsSoundly found
+IsSoundReading (refused refusal) = ⊥

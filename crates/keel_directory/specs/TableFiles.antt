@@ -4,7 +4,7 @@ use Rattle.keel_base.specs.declared.row.Row.{Row}
 use Rattle.keel_base.specs.declared.file_name.FileName.TheVariants.{Table}
 use Rattle.keel_disk.specs.Directory.{Named, find}
 use Rattle.keel_edit.specs.declared.edit.Added.{Added}
-use Rattle.keel_table.specs.declared.index.IndexEntry.{IndexEntry}
+use Rattle.keel_table.specs.declared.index.BlockEntry.{BlockEntry}
 use Rattle.keel_table.specs.Opening.{Damage, bad_shape, Opened, opened, block_found}
 use Rattle.keel_directory.specs.Refusals.{Refusal, missing_table, bad_table}
 
@@ -22,7 +22,7 @@ rows_found (Ok rows) = rows
 rows_found (Err damage) = []
 
 -- the rows of the entries' blocks, the first of which stands behind a key
-abbrev pub block_rows : List ℕ → List ℕ → List IndexEntry → List Row
+abbrev pub block_rows : List ℕ → List ℕ → List BlockEntry → List Row
 block_rows bytes before [] = []
 block_rows bytes before (e ∷ es) = rows_found (block_found before e bytes) ++ block_rows bytes e.last es
 

@@ -14,7 +14,7 @@ pub enum Damaged {
 
 /// Why a directory isn't read. The tests stand in this order.
 #[derive(Debug, Drop)]
-pub enum ReadError {
+pub enum DirectoryRefusal {
     /// There is no CURRENT, and this is the first file of the listing that a new store doesn't have: a table, a
     /// trash file, or a log with a byte.
     NoCurrent { file: FileName },
@@ -35,25 +35,25 @@ pub enum ReadError {
     OutOfMemory,
 }
 
-impl From<OutOfMemory> for ReadError {
+impl From<OutOfMemory> for DirectoryRefusal {
     ghost use Rattle.std.specs.Prelude.{◌≡◌};
-    ghost use Rattle.keel_directory.specs.declared.answer.ReadError.TheVariants.{OutOfMemory};
+    ghost use Rattle.keel_directory.specs.declared.answer.DirectoryRefusal.TheVariants.{OutOfMemory};
 
     ghost from_gives = { λ _ e. e ≡ OutOfMemory };
 
     fn from(_: OutOfMemory) -> Self {
-        ReadError::OutOfMemory
+        DirectoryRefusal::OutOfMemory
     }
 }
 
-impl<T: Drop> From<AllocFailed<T>> for ReadError {
+impl<T: Drop> From<AllocFailed<T>> for DirectoryRefusal {
     ghost use Rattle.std.specs.Prelude.{◌≡◌};
-    ghost use Rattle.keel_directory.specs.declared.answer.ReadError.TheVariants.{OutOfMemory};
+    ghost use Rattle.keel_directory.specs.declared.answer.DirectoryRefusal.TheVariants.{OutOfMemory};
 
     ghost from_gives = { λ _ e. e ≡ OutOfMemory };
 
     fn from(_: AllocFailed<T>) -> Self {
-        ReadError::OutOfMemory
+        DirectoryRefusal::OutOfMemory
     }
 }
 

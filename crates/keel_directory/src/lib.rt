@@ -12,7 +12,7 @@
 //!   the logs from the least number on have batches that run on from the version's last number (`specs/Replays`). What
 //!   fails first is the refusal (`specs/Refusals`). Of all rows of all tables and logs the newest of a key counts.
 //! - `specs/Sound`: the files are as the store itself makes them.
-//! - `specs/Standing`: the points that a crash may leave, and what it is that a device stands for them.
+//! - `specs/Standing`: what it is that a device stands for a story, where it is read so.
 //!
 //! It stands on the formats: `keel_frag`, `keel_batch`, `keel_edit` with `keel_version`, `keel_table`; and on `keel_disk` for
 //! directories and what crashes leave of them.
@@ -27,7 +27,7 @@ mod newest;
 mod reading;
 mod tables;
 
-pub use answer::{Damaged, Directory, Held, Pairs, ReadError};
+pub use answer::{Damaged, Directory, DirectoryRefusal, Held, Pairs};
 pub use files::File;
 pub use reading::read_directory;
 

@@ -8,7 +8,7 @@ ghost use Rattle.keel_directory.specs.Answers.{Answers, Names};
 ghost use Rattle.keel_directory.specs.Replays as spec;
 ghost use Rattle.keel_directory.specs.Replays.{ReadLog};
 
-use crate::answer::ReadError;
+use crate::answer::DirectoryRefusal;
 use crate::files::File;
 use keel_base::{Bytes, FileName, Kind, Op, Ops, OutOfMemory, Row};
 use keel_batch::{BatchError, decode};
@@ -95,7 +95,7 @@ fn logs_from(alloc: Global, least: u64, files: &[File]) -> Result<Vec<LogFile>, 
 }
 
 /// The batch of a record.
-fn batch_in(alloc: Global, log: u64, found: &LogRecord) -> Result<Replayed, ReadError>
+fn batch_in(alloc: Global, log: u64, found: &LogRecord) -> Result<Replayed, DirectoryRefusal>
     ensures batch { Answers (λ batch. batch) (λ answer. answer ≡ spec.batch_found log found.now (batch_of found.now.payload)) result }
     ensures numbered { IfOk result spec.IsNumbered }
 {
@@ -105,11 +105,11 @@ fn batch_in(alloc: Global, log: u64, found: &LogRecord) -> Result<Replayed, Read
             seq: batch.seq,
             ops: batch.ops,
         }),
-        Err(BatchError::BadBatch { .. }) => Err(ReadError::BadLog {
+        Err(BatchError::BadBatch { .. }) => Err(DirectoryRefusal::BadLog {
             log,
             at: found.place,
         }),
-        Err(BatchError::OutOfMemory) => Err(ReadError::OutOfMemory),
+        Err(BatchError::OutOfMemory) => Err(DirectoryRefusal::OutOfMemory),
     }
 }
 
@@ -119,7 +119,7 @@ fn add_records(
     log: u64,
     records: &[LogRecord],
     batches: &mut Vec<Replayed>,
-) -> Result<(), ReadError>
+) -> Result<(), DirectoryRefusal>
     ensures ok { OnOk result ((found : List ABatch) × (spec.batches_of log records.now ≡ Ok found) × (batches.new.items ≡ batches.old.items ++ found)) }
     ensures err { IfErr result (λ e. Names e (λ refusal. spec.batches_of log records.now ≡ Err refusal)) }
     ensures numbered { OnOk result (AllByRecursion spec.IsNumbered batches.old.items → AllByRecursion spec.IsNumbered batches.new.items) }
@@ -134,7 +134,11 @@ fn add_records(
 }
 
 /// Adds the batches of logs.
-fn add_logs(alloc: Global, logs: &[LogFile], batches: &mut Vec<Replayed>) -> Result<(), ReadError>
+fn add_logs(
+    alloc: Global,
+    logs: &[LogFile],
+    batches: &mut Vec<Replayed>,
+) -> Result<(), DirectoryRefusal>
     ensures ok { OnOk result ((read : List ReadLog) × spec.AreRead logs.now read × (found : List ABatch) × (spec.all_batches read ≡ Ok found) × (batches.new.items ≡ batches.old.items ++ found)) }
     ensures err { IfErr result (λ e. Names e (λ refusal. (read : List ReadLog) × spec.AreRead logs.now read × (spec.all_batches read ≡ Err refusal))) }
     ensures numbered { OnOk result (AllByRecursion spec.IsNumbered batches.old.items → AllByRecursion spec.IsNumbered batches.new.items) }
@@ -152,7 +156,7 @@ fn add_logs(alloc: Global, logs: &[LogFile], batches: &mut Vec<Replayed>) -> Res
 }
 
 /// The number of the last op, where each batch begins behind the one before.
-fn last_number(last: u64, batches: &[Replayed]) -> Result<u64, ReadError>
+fn last_number(last: u64, batches: &[Replayed]) -> Result<u64, DirectoryRefusal>
     requires { AllByRecursion spec.IsNumbered batches.now }
     ensures { Answers (λ end. end) (λ answer. answer ≡ spec.run_on last batches.now) result }
 {
@@ -160,7 +164,7 @@ fn last_number(last: u64, batches: &[Replayed]) -> Result<u64, ReadError>
         [] => Ok(last),
         [batch, rest @ ..] => {
             if batch.seq == 0 || batch.seq - 1 != last {
-                return Err(ReadError::LogGap {
+                return Err(DirectoryRefusal::LogGap {
                     log: batch.log,
                     last,
                     found: batch.seq,
@@ -177,7 +181,7 @@ pub(crate) fn replay(
     files: &[File],
     least: u64,
     last: u64,
-) -> Result<(Vec<Replayed>, u64), ReadError>
+) -> Result<(Vec<Replayed>, u64), DirectoryRefusal>
     ensures answer { Answers (λ x. record { batches = x.0.items; last = x.1 }) (spec.LogsAre files.now least last) result }
     ensures numbered { IfOk result (λ x. AllByRecursion spec.IsNumbered x.0.items) }
 {

@@ -4,7 +4,7 @@ ghost use Rattle.keel_edit.specs.Reading.{edit_of};
 ghost use Rattle.keel_directory.specs.Answers.{Answers};
 ghost use Rattle.keel_directory.specs.Manifests as spec;
 
-use crate::answer::ReadError;
+use crate::answer::DirectoryRefusal;
 use keel_base::Bytes;
 use keel_edit::{EditError, decode};
 use keel_frag::{LogRecord, read_log};
@@ -24,31 +24,35 @@ fn front(bytes: &[u8]) -> &[u8]
 }
 
 /// The number of the manifest that CURRENT's bytes name, or their refusal.
-pub(crate) fn current_manifest(alloc: Global, bytes: &[u8]) -> Result<u64, ReadError>
+pub(crate) fn current_manifest(alloc: Global, bytes: &[u8]) -> Result<u64, DirectoryRefusal>
     ensures { Answers (λ number. number) (spec.CurrentIs bytes.now) result }
 {
     match read_current(bytes) {
         Some(number) => Ok(number),
-        None => Err(ReadError::BadCurrent {
+        None => Err(DirectoryRefusal::BadCurrent {
             bytes: Bytes::from_slice(alloc, front(bytes))?,
         }),
     }
 }
 
 /// The version behind a record, which has to be an edit that applies.
-fn behind_record(alloc: Global, version: Version, found: &LogRecord) -> Result<Version, ReadError>
+fn behind_record(
+    alloc: Global,
+    version: Version,
+    found: &LogRecord,
+) -> Result<Version, DirectoryRefusal>
     ensures { Answers (λ next. next) (λ answer. answer ≡ spec.next_version found.now.place (spec.behind_edit version (edit_of found.now.payload)) (λ next. Ok next)) result }
 {
     let at = found.place;
     let edit = match decode(alloc, found.payload.as_slice()) {
         Ok(edit) => edit,
-        Err(EditError::BadShape { .. }) => return Err(ReadError::DamagedManifest { at }),
-        Err(EditError::OutOfMemory) => return Err(ReadError::OutOfMemory),
+        Err(EditError::BadShape { .. }) => return Err(DirectoryRefusal::DamagedManifest { at }),
+        Err(EditError::OutOfMemory) => return Err(DirectoryRefusal::OutOfMemory),
     };
     match version.into_applied(alloc, &edit) {
         Ok(next) => Ok(next),
-        Err(ApplyError::BadEdit { .. }) => Err(ReadError::DamagedManifest { at }),
-        Err(ApplyError::OutOfMemory) => Err(ReadError::OutOfMemory),
+        Err(ApplyError::BadEdit { .. }) => Err(DirectoryRefusal::DamagedManifest { at }),
+        Err(ApplyError::OutOfMemory) => Err(DirectoryRefusal::OutOfMemory),
     }
 }
 
@@ -57,7 +61,7 @@ fn behind_records(
     alloc: Global,
     version: Version,
     records: &[LogRecord],
-) -> Result<Version, ReadError>
+) -> Result<Version, DirectoryRefusal>
     ensures { Answers (λ next. next) (λ answer. answer ≡ spec.behind_edits version records.now) result }
 {
     match records {
@@ -70,15 +74,18 @@ fn behind_records(
 }
 
 /// The version of a manifest, which has an edit at least.
-pub(crate) fn manifest_version(alloc: Global, manifest: Option<&[u8]>) -> Result<Version, ReadError>
+pub(crate) fn manifest_version(
+    alloc: Global,
+    manifest: Option<&[u8]>,
+) -> Result<Version, DirectoryRefusal>
     ensures { Answers (λ version. version) (spec.ManifestIs (option_map (λ bytes. bytes.now) manifest.entry)) result }
 {
     let Some(bytes) = manifest else {
-        return Err(ReadError::DamagedManifest { at: 0 });
+        return Err(DirectoryRefusal::DamagedManifest { at: 0 });
     };
     let records = read_log(alloc, bytes)?;
     if records.all.is_empty() {
-        return Err(ReadError::DamagedManifest { at: 0 });
+        return Err(DirectoryRefusal::DamagedManifest { at: 0 });
     }
     behind_records(alloc, Version::empty(alloc), records.all.as_slice())
 }

@@ -1,7 +1,7 @@
 // The reading of a directory.
 ghost use Rattle.keel_directory.specs.Answers.{HoldsAs, Reads};
 
-use crate::answer::{Directory, Held, Pairs, ReadError};
+use crate::answer::{Directory, DirectoryRefusal, Held, Pairs};
 use crate::files::{File, find, first_used};
 use crate::logs::{add_batches, replay};
 use crate::manifest::{current_manifest, manifest_version};
@@ -11,7 +11,7 @@ use keel_base::FileName;
 use std::alloc::Global;
 
 /// What a directory whose CURRENT has these bytes holds.
-fn held(alloc: Global, files: &[File], current: &[u8]) -> Result<Held, ReadError>
+fn held(alloc: Global, files: &[File], current: &[u8]) -> Result<Held, DirectoryRefusal>
     ensures { HoldsAs files.now current.now result }
 {
     let manifest = current_manifest(alloc, current)?;
@@ -33,14 +33,14 @@ fn held(alloc: Global, files: &[File], current: &[u8]) -> Result<Held, ReadError
 ///
 /// It is slow and takes its steps as the definition does: look-ups go through all files, and all rows of all tables
 /// and logs stand in memory. It is what faster reading is measured against.
-pub fn read_directory(alloc: Global, files: &[File]) -> Result<Directory, ReadError>
+pub fn read_directory(alloc: Global, files: &[File]) -> Result<Directory, DirectoryRefusal>
     ensures { Reads files.now result }
 {
     match find(files, FileName::Current) {
         Some(current) => Ok(Directory::Held(held(alloc, files, current)?)),
         None => match first_used(alloc, files)? {
             None => Ok(Directory::New),
-            Some(file) => Err(ReadError::NoCurrent { file }),
+            Some(file) => Err(DirectoryRefusal::NoCurrent { file }),
         },
     }
 }

@@ -6,11 +6,11 @@ ghost use Rattle.keel_directory.specs.Answers.{Answers, Names, TableRowsAre, dam
 ghost use Rattle.keel_directory.specs.TableFiles as spec;
 ghost use Rattle.keel_directory.specs.TableFiles.{TableFile};
 
-use crate::answer::{Damaged, ReadError};
+use crate::answer::{Damaged, DirectoryRefusal};
 use crate::files::{File, find};
 use keel_base::{FileName, OutOfMemory, Row, Rows};
 use keel_edit::Added;
-use keel_table::{IndexEntry, TableFault, block_in, open_bytes};
+use keel_table::{BlockEntry, TableFault, block_in, open_bytes};
 use std::alloc::Global;
 
 /// The bytes of a table.
@@ -97,12 +97,12 @@ fn damaged<'a>(
 }
 
 /// Whether all tables of a version are there and open, or why they aren't read.
-fn check_tables(alloc: Global, files: &[File], tables: &[Added]) -> Result<(), ReadError>
+fn check_tables(alloc: Global, files: &[File], tables: &[Added]) -> Result<(), DirectoryRefusal>
     ensures ok { OnOk result (spec.refusal_of files.now tables.now ≡ None) }
     ensures err { IfErr result (λ e. Names e (λ refusal. spec.refusal_of files.now tables.now ≡ Some refusal)) }
 {
     if let Some(table) = missing(files, tables) {
-        return Err(ReadError::MissingTable {
+        return Err(DirectoryRefusal::MissingTable {
             number: table.number,
         });
     }
@@ -111,7 +111,7 @@ fn check_tables(alloc: Global, files: &[File], tables: &[Added]) -> Result<(), R
     };
     match damage_in(alloc, files, table)? {
         None => Ok(()),
-        Some(damage) => Err(ReadError::BadTable {
+        Some(damage) => Err(DirectoryRefusal::BadTable {
             number: table.number,
             damage,
         }),
@@ -123,7 +123,7 @@ fn block_rows(
     alloc: Global,
     bytes: &[u8],
     before: &[u8],
-    entry: &IndexEntry,
+    entry: &BlockEntry,
 ) -> Result<Rows, OutOfMemory>
     ensures { IfOk result (λ rows. rows ≡ spec.rows_found (block_found before.now entry.now bytes.now)) }
 {
@@ -139,7 +139,7 @@ fn add_blocks(
     alloc: Global,
     bytes: &[u8],
     before: &[u8],
-    entries: &[IndexEntry],
+    entries: &[BlockEntry],
     rows: &mut Vec<Row>,
 ) -> Result<(), OutOfMemory>
     ensures { OnOk result (rows.new.items ≡ rows.old.items ++ spec.block_rows bytes.now before.now entries.now) }
@@ -190,7 +190,7 @@ pub(crate) fn table_rows(
     alloc: Global,
     files: &[File],
     tables: &[Added],
-) -> Result<Vec<Row>, ReadError>
+) -> Result<Vec<Row>, DirectoryRefusal>
     ensures { Answers (λ rows. rows.items) (TableRowsAre files.now tables.now) result }
 {
     check_tables(alloc, files, tables)?;

@@ -1,4 +1,4 @@
-use crate::{Damaged, Directory, File, ReadError, laws, read_directory};
+use crate::{Damaged, Directory, DirectoryRefusal, File, laws, read_directory};
 use keel_base::{Bytes, FileName, OutOfMemory};
 use std::alloc::Global;
 use std::test::Fail;
@@ -75,21 +75,21 @@ enum Read {
     OutOfMemory,
 }
 
-fn summed_up(answer: Result<Directory, ReadError>) -> Read {
+fn summed_up(answer: Result<Directory, DirectoryRefusal>) -> Read {
     match answer {
         Ok(Directory::New) => Read::New,
         Ok(Directory::Held(held)) => Read::Held {
             keys: held.pairs.len(),
             last: held.last,
         },
-        Err(ReadError::NoCurrent { file }) => Read::NoCurrent(file),
-        Err(ReadError::BadCurrent { bytes }) => Read::BadCurrent { bytes: bytes.len() },
-        Err(ReadError::DamagedManifest { at }) => Read::DamagedManifest { at },
-        Err(ReadError::MissingTable { number }) => Read::MissingTable(number),
-        Err(ReadError::BadTable { number, damage }) => Read::BadTable(number, damage),
-        Err(ReadError::BadLog { log, at }) => Read::BadLog { log, at },
-        Err(ReadError::LogGap { log, last, found }) => Read::LogGap { log, last, found },
-        Err(ReadError::OutOfMemory) => Read::OutOfMemory,
+        Err(DirectoryRefusal::NoCurrent { file }) => Read::NoCurrent(file),
+        Err(DirectoryRefusal::BadCurrent { bytes }) => Read::BadCurrent { bytes: bytes.len() },
+        Err(DirectoryRefusal::DamagedManifest { at }) => Read::DamagedManifest { at },
+        Err(DirectoryRefusal::MissingTable { number }) => Read::MissingTable(number),
+        Err(DirectoryRefusal::BadTable { number, damage }) => Read::BadTable(number, damage),
+        Err(DirectoryRefusal::BadLog { log, at }) => Read::BadLog { log, at },
+        Err(DirectoryRefusal::LogGap { log, last, found }) => Read::LogGap { log, last, found },
+        Err(DirectoryRefusal::OutOfMemory) => Read::OutOfMemory,
     }
 }
 

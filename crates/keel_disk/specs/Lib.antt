@@ -4,6 +4,7 @@ pub mod Step
 pub mod Image
 pub mod Plain
 pub mod Sound
+pub mod Standing
 pub mod Counts
 pub mod Listings
 pub mod Told

@@ -13,7 +13,7 @@ use Rattle.keel_region.specs.Order.{IsPutIn, AreInOrder}
 use Rattle.keel_region.specs.Shown.{RegionShown, IndexShown}
 use Rattle.keel_region.specs.Spans.{IsHeld, AreHeld, IsWithin}
 use Rattle.keel_mem.specs.Shown.{by_number, row_in, rows_in, rows_by_arrival}
-use Rattle.keel_mem.specs.Sound.{IsSound}
+use Rattle.keel_mem.specs.Sound.{HoldsRows}
 use Rattle.keel_mem.specs.Totals.{most_weight, row_bytes, weight_of, least_seq, greatest_seq, first_of}
 use Rattle.keel_mem.proofs.Keeping.{bytes_at-append, bytes_at-placed, AreHeld-append, rows_in-append, length-rows_in}
 use Rattle.keel_mem.proofs.Numbering.{by_number-permutes, arrives_last, greatest_seq-push, least_seq-push}
@@ -101,7 +101,7 @@ module _ (bytes key value : List ℕ) (entry : IndexEntry) (placed : IsPlaced by
         → length bytes ≡ sum_by row_bytes (rows_in bytes old) → free_bytes ≤ region.spare → free_entries ≤ index.spare
         → All IsRow (rows_by_arrival bytes old) → IsRow (put_row entry key value) → entry.seq ≤ 2 ^ 56
         → 16 * (length old + free_entries) + (length bytes + free_bytes) ≤ most_weight → length key + length value ≤ free_bytes → 0 < free_entries
-        → IsSound after next (free_bytes - (length key + length value)) (free_entries - 1) first_next entry.seq
+        → HoldsRows after next (free_bytes - (length key + length value)) (free_entries - 1) first_next entry.seq
     put_sound region after index next free_bytes free_entries first last first_next is_bytes is_old is_new whole spare places order below first_is total room free limits own within weighs_most fits some =
         let arrived : rows_by_arrival after.bytes next.entries ≡ rows_by_arrival bytes old ++ put_row entry key value ∷ [] = (λ i. rows_by_arrival (whole i) (is_new i)) ∙ put_arrives below in
         record {
@@ -144,10 +144,10 @@ weighs bytes entries size total =
 
 -- what held of the parts holds of them with more room, where that weighs no more than a memtable may
 pub reserved_sound : (region after : RegionShown) (index next : IndexShown) (old_bytes old_entries free_bytes free_entries first last : ℕ)
-    → IsSound region index old_bytes old_entries first last → after.bytes ≡ region.bytes → next.entries ≡ index.entries
+    → HoldsRows region index old_bytes old_entries first last → after.bytes ≡ region.bytes → next.entries ≡ index.entries
     → free_bytes ≤ after.spare → free_entries ≤ next.spare
     → weight_of (rows_by_arrival region.bytes index.entries) + (16 * free_entries + free_bytes) ≤ most_weight
-    → IsSound after next free_bytes free_entries first last
+    → HoldsRows after next free_bytes free_entries first last
 reserved_sound region after index next old_bytes old_entries free_bytes free_entries first last sound same_bytes same_entries room places fits =
     let rows : rows_by_arrival after.bytes next.entries ≡ rows_by_arrival region.bytes index.entries = λ i. rows_by_arrival (same_bytes i) (same_entries i) in
     let weighed = weighs region.bytes index.entries (length region.bytes) sound.total in

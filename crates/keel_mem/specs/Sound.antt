@@ -9,7 +9,7 @@ use Rattle.keel_mem.specs.Totals.{most_weight, row_bytes, least_seq, greatest_se
 
 -- The entries stand in order over the region's bytes, which are those of the rows, and the numbers kept are right. Each row
 -- is within its limits, and what has room weighs no more than a memtable may.
-pub record IsSound (region : RegionShown) (index : IndexShown) (free_bytes free_entries first last : ℕ) : Type 0 where
+pub record HoldsRows (region : RegionShown) (index : IndexShown) (free_bytes free_entries first last : ℕ) : Type 0 where
   pub held : AreHeld region.bytes index.entries
   pub order : AreInOrder region.bytes index.entries
   pub room : free_bytes ≤ region.spare

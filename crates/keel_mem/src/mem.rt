@@ -33,13 +33,13 @@ pub struct Mem {
 
 impl Model for Mem {
     ghost use Rattle.keel_mem.specs.Shown.{MemShown, rows_by_arrival};
-    ghost use Rattle.keel_mem.specs.Sound.{IsSound};
+    ghost use Rattle.keel_mem.specs.Sound.{HoldsRows};
 
     ghost Value = { MemShown };
 
     ghost view = { λ m. record { rows = rows_by_arrival m.region.bytes m.index.entries; bytes = m.free_bytes; entries = m.free_entries } };
 
-    ghost invariant = { λ m. IsSound m.region m.index m.free_bytes m.free_entries m.first m.last };
+    ghost invariant = { λ m. HoldsRows m.region m.index m.free_bytes m.free_entries m.first m.last };
 }
 
 impl Mem {

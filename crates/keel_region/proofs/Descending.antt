@@ -10,7 +10,7 @@ use Rattle.keel_region.specs.Order.{Precedes, AreInOrder, entry_before, has_key}
 use Rattle.keel_region.specs.Places.{IsPlaceOf}
 use Rattle.keel_region.specs.Slots.{node_at}
 use Rattle.keel_region.specs.Spans.{bytes_at, IsHeld, AreHeld}
-use Rattle.keel_region.specs.Trees.{Tree, root_of, walk, Stands, failing_or, is_up_to}
+use Rattle.keel_region.specs.Trees.{Tree, root_of, walk, IsStored, failing_or, is_up_to}
 use Rattle.keel_region.proofs.Orders.{comes_before-itself, comes_before-trans}
 use Rattle.keel_region.proofs.Seeking.{slice_get_some, found_past, found_here, found_other}
 use Rattle.keel_region.proofs.Trees.{back_order, front_order, cross_order, halves, no_walk}
@@ -50,7 +50,7 @@ failing_at test (x ∷ xs) (suc place) at =
     }))
 
 abbrev pub Answers : List ℕ → List (Option Node) → (IndexEntry → Bool) → Option Slot → Option IndexEntry → Option IndexEntry → Type 0
-Answers bytes slots test root best result = (tree : Tree) → Stands slots tree → root_of tree ≡ root → AreInOrder bytes (walk tree) → result ≡ failing_or test (walk tree) best
+Answers bytes slots test root best result = (tree : Tree) → IsStored slots tree → root_of tree ≡ root → AreInOrder bytes (walk tree) → result ≡ failing_or test (walk tree) best
 
 module _ (bytes : List ℕ) (slots : List (Option Node)) (test : IndexEntry → Bool) (slot : Slot) (node : Node) (there : node_at slots slot.place ≡ Some node) (best result : Option IndexEntry) where
   pub go_left : test node.entry ≡ false → Answers bytes slots test node.left (Some node.entry) result → Answers bytes slots test (Some slot) best result
@@ -78,8 +78,8 @@ nothing bytes slots test best tree stands rooted order = ap (λ (xs : List Index
 
 -- the leftmost
 pub most_left : (slots : List (Option Node)) (slot : Slot) (node : Node) → node_at slots slot.place ≡ Some node → (best result : Option IndexEntry)
-    → ((tree : Tree) → Stands slots tree → root_of tree ≡ node.left → result ≡ failing_or (λ entry. false) (walk tree) (Some node.entry))
-    → (tree : Tree) → Stands slots tree → root_of tree ≡ Some slot → result ≡ failing_or (λ entry. false) (walk tree) best
+    → ((tree : Tree) → IsStored slots tree → root_of tree ≡ node.left → result ≡ failing_or (λ entry. false) (walk tree) (Some node.entry))
+    → (tree : Tree) → IsStored slots tree → root_of tree ≡ Some slot → result ≡ failing_or (λ entry. false) (walk tree) best
 most_left slots slot node there best result answers tree stands rooted =
     let half = halves slots tree slot node stands rooted there in
     answers half.left half.stands_left half.root_left

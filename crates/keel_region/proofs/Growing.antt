@@ -6,7 +6,7 @@ use Rattle.keel_region.specs.declared.span.IndexEntry.{IndexEntry}
 use Rattle.keel_region.specs.declared.pool.Node.{Node}
 use Rattle.keel_region.specs.declared.pool.Slot.{Slot}
 use Rattle.keel_region.specs.Slots.{node_at}
-use Rattle.keel_region.specs.Trees.{Tree, Leaf, Fork, root_of, walk, Stands, grown, tree_at, HasTree}
+use Rattle.keel_region.specs.Trees.{Tree, Leaf, Fork, root_of, walk, IsStored, grown, tree_at, HasTree}
 use Rattle.std.specs.Prelude.{All}
 use Rattle.keel_region.proofs.Trees.{halves, middle, all_front, all_back}
 
@@ -22,7 +22,7 @@ unfold_none zero slots = refl
 unfold_none (suc n) slots = refl
 
 -- a tree that stands is what grows from its root
-pub grows : (n : ℕ) (slots : List (Option Node)) (tree : Tree) → Stands slots tree → length (walk tree) ≤ n → grown n slots (root_of tree) ≡ tree
+pub grows : (n : ℕ) (slots : List (Option Node)) (tree : Tree) → IsStored slots tree → length (walk tree) ≤ n → grown n slots (root_of tree) ≡ tree
 grows n slots Leaf stands le = unfold_none n slots
 grows zero slots (Fork place entry height left right) stands le = absurd (omega (arith, length-append (walk left) (entry ∷ walk right)))
 grows (suc n) slots (Fork place entry height left right) stands le =
@@ -32,7 +32,7 @@ grows (suc n) slots (Fork place entry height left right) stands le =
     unfold_some n slots (record { place = place }) (record { entry = entry; left = root_of left; right = root_of right; height = height }) stands.0
     ∙ (λ i. Fork place entry height (first i) (second i))
 
-pub tree_is : (slots : List (Option Node)) (root : Option Slot) (tree : Tree) → Stands slots tree → root_of tree ≡ root → length (walk tree) ≤ length slots
+pub tree_is : (slots : List (Option Node)) (root : Option Slot) (tree : Tree) → IsStored slots tree → root_of tree ≡ root → length (walk tree) ≤ length slots
     → tree_at slots root ≡ tree
 tree_is slots root tree stands rooted few = ap (λ (r : Option Slot). grown (length slots) slots r) (sym rooted) ∙ grows (length slots) slots tree stands few
 
@@ -97,7 +97,7 @@ none_slot s e = cc
 same_slot : (a b : Slot) → Some a ≡ Some b → a ≡ b
 same_slot a b e = ap (λ (o : Option Slot). elim o [ None ↦ a | Some n ↦ n ]) e
 
-missing : (slots : List (Option Node)) (tree : Tree) (slot : Slot) → Stands slots tree → root_of tree ≡ Some slot → node_at slots slot.place ≡ None → ⊥
+missing : (slots : List (Option Node)) (tree : Tree) (slot : Slot) → IsStored slots tree → root_of tree ≡ Some slot → node_at slots slot.place ≡ None → ⊥
 missing slots Leaf slot stands root there = none_slot slot root
 missing slots (Fork place entry height left right) slot stands root there =
     none_some (record { entry = entry; left = root_of left; right = root_of right; height = height })

@@ -8,7 +8,7 @@ use Rattle.keel_region.specs.declared.pool.Slot.{Slot}
 use Rattle.keel_region.specs.Order.{AreInOrder, IsNew, IsPutIn}
 use Rattle.keel_region.specs.Slots.{KeepsNodes}
 use Rattle.keel_region.specs.Spans.{bytes_at}
-use Rattle.keel_region.specs.Trees.{Tree, Leaf, root_of, walk, Stands, tree_at, HasTree, IsIndex, Makes, put_in}
+use Rattle.keel_region.specs.Trees.{Tree, Leaf, root_of, walk, IsStored, tree_at, HasTree, IsIndex, Makes, put_in}
 use Rattle.keel_region.proofs.Growing.{tree_is, unfold_none}
 use Rattle.keel_region.proofs.Planting.{own_test, put_order, has_place}
 use Rattle.keel_region.proofs.Trees.{stay}
@@ -19,7 +19,7 @@ empty_tree slots = unfold_none (length slots) slots
 pub empty_index : (slots : List (Option Node)) (spare : ℕ) → length slots ≡ 0 → spare ≡ 0 → IsIndex slots spare None
 empty_index slots spare none nothing = record {
   rooted = ap root_of (empty_tree slots);
-  stands = subst (Stands slots) (sym (empty_tree slots)) tt;
+  stands = subst (IsStored slots) (sym (empty_tree slots)) tt;
   count = omega (arith, ap (λ (t : Tree). length (walk t)) (empty_tree slots));
 }
 
@@ -38,7 +38,7 @@ more_index old new spare more root index keeps size le =
     let same = more_room old new spare more root index keeps size le in
     record {
       rooted = ap root_of same ∙ index.rooted;
-      stands = subst (Stands new) (sym same) (stay old new (tree_at old root) index.stands (λ p n e h. keeps p ∙ e));
+      stands = subst (IsStored new) (sym same) (stay old new (tree_at old root) index.stands (λ p n e h. keeps p ∙ e));
       count = omega (arith, index.count, size, ap (λ (t : Tree). length (walk t)) same);
     }
 
@@ -64,7 +64,7 @@ module _ (bytes : List ℕ) (old new : List (Option Node)) (spare : ℕ) (root :
   pub put_index : IsIndex new next (Some result)
   put_index = record {
     rooted = ap root_of put_tree ∙ makes.rooted;
-    stands = subst (Stands new) (sym put_tree) makes.stands;
+    stands = subst (IsStored new) (sym put_tree) makes.stands;
     count = omega (arith, longer, index.count, ap (λ (t : Tree). length (walk t)) put_tree);
   }
 

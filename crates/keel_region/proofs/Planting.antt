@@ -9,7 +9,7 @@ use Rattle.keel_region.specs.Order.{Precedes, AreInOrder, IsNew, entry_before}
 use Rattle.keel_region.specs.Places.{IsPlaceOf}
 use Rattle.keel_region.specs.Slots.{node_at}
 use Rattle.keel_region.specs.Spans.{bytes_at}
-use Rattle.keel_region.specs.Trees.{Tree, Leaf, Fork, root_of, walk, Stands, Makes, Joins, put_in}
+use Rattle.keel_region.specs.Trees.{Tree, Leaf, Fork, root_of, walk, IsStored, Makes, Joins, put_in}
 use Rattle.keel_region.proofs.Adding.{put_in_order}
 use Rattle.keel_region.proofs.Halves.{fails_from}
 use Rattle.keel_region.proofs.Orders.{Precedes-before}
@@ -96,7 +96,7 @@ pub get_or_self : (xs : List IndexEntry) (k : ℕ) (d : IndexEntry) → k < leng
 get_or_self xs k d lt = get_or_default xs k (get_or xs k d) d lt
 
 abbrev pub Puts : List ℕ → List (Option Node) → List (Option Node) → IndexEntry → Option Slot → Slot → Type 0
-Puts bytes old new entry root result = (tree : Tree) → Stands old tree → root_of tree ≡ root → AreInOrder bytes (walk tree) → IsNew bytes (walk tree) entry
+Puts bytes old new entry root result = (tree : Tree) → IsStored old tree → root_of tree ≡ root → AreInOrder bytes (walk tree) → IsNew bytes (walk tree) entry
     → Makes old new (put_in (own_test bytes entry) entry (walk tree)) (Some result)
 
 module _ (bytes : List ℕ) (old mid new : List (Option Node)) (entry : IndexEntry) (slot : Slot) (node : Node) (there : node_at old slot.place ≡ Some node) (lower root : Slot) where

@@ -10,7 +10,7 @@ use Rattle.keel_region.specs.declared.pool.Slot.{Slot}
 use Rattle.keel_region.specs.Order.{Precedes, AreInOrder}
 use Rattle.keel_region.specs.Slots.{node_at}
 use Rattle.keel_region.specs.Spans.{bytes_at}
-use Rattle.keel_region.specs.Trees.{Tree, Leaf, Fork, root_of, walk, Stands, HasEntry, KeepsOthers, Makes, Joins, Turns}
+use Rattle.keel_region.specs.Trees.{Tree, Leaf, Fork, root_of, walk, IsStored, HasEntry, KeepsOthers, Makes, Joins, Rebuilds}
 use Rattle.keel_region.proofs.Orders.{comes_before-itself}
 
 -- what holds of all holds of a part
@@ -50,8 +50,8 @@ cross_apart bytes xs ys order x a b =
     false≢true (sym (comes_before-itself (bytes_at bytes x.key) x.seq) ∙ cross_order bytes xs ys order x x a b)
 
 -- a tree whose entries' nodes stay stands still
-pub stay : (old new : List (Option Node)) (tree : Tree) → Stands old tree → ((place : ℕ) (node : Node) → node_at old place ≡ Some node → Contains (walk tree) node.entry → node_at new place ≡ Some node)
-    → Stands new tree
+pub stay : (old new : List (Option Node)) (tree : Tree) → IsStored old tree → ((place : ℕ) (node : Node) → node_at old place ≡ Some node → Contains (walk tree) node.entry → node_at new place ≡ Some node)
+    → IsStored new tree
 stay old new Leaf stands keep = tt
 stay old new (Fork place entry height left right) stands keep = (
   keep place (record { entry = entry; left = root_of left; right = root_of right; height = height }) stands.0 (Contains-append_right (walk left) (entry ∷ walk right) entry (0, omega arith, refl)),
@@ -59,8 +59,8 @@ stay old new (Fork place entry height left right) stands keep = (
   stay old new right stands.2 (λ p n e h. keep p n e (Contains-append_right (walk left) (entry ∷ walk right) n.entry (Contains-append_right (entry ∷ []) (walk right) n.entry h))),
 )
 
-pub stands_still : (old new : List (Option Node)) (tree : Tree) (entries : List IndexEntry) → Stands old tree → KeepsOthers old new entries
-    → ((x : IndexEntry) → Contains (walk tree) x → Contains entries x → ⊥) → Stands new tree
+pub stands_still : (old new : List (Option Node)) (tree : Tree) (entries : List IndexEntry) → IsStored old tree → KeepsOthers old new entries
+    → ((x : IndexEntry) → Contains (walk tree) x → Contains entries x → ⊥) → IsStored new tree
 stands_still old new tree entries stands others apart = stay old new tree stands (λ p n e h. others p n e (λ g. apart n.entry h g))
 
 pub entry_still : (old new : List (Option Node)) (place : ℕ) (entry : IndexEntry) (entries : List IndexEntry) → HasEntry old place entry → KeepsOthers old new entries
@@ -118,9 +118,9 @@ written old new place node height there others bytes left right stands_left root
 pub record Halves (slots : List (Option Node)) (tree : Tree) (node : Node) : Type 0 where
   pub left : Tree
   pub right : Tree
-  pub stands_left : Stands slots left
+  pub stands_left : IsStored slots left
   pub root_left : root_of left ≡ node.left
-  pub stands_right : Stands slots right
+  pub stands_right : IsStored slots right
   pub root_right : root_of right ≡ node.right
   pub is : walk tree ≡ walk left ++ node.entry ∷ walk right
 
@@ -130,7 +130,7 @@ same_slot a b e = ap (λ (o : Option Slot). elim o [ None ↦ a | Some n ↦ n ]
 none_slot : (s : Slot) → None ≡ Some s → ⊥
 none_slot s e = cc
 
-pub halves : (slots : List (Option Node)) (tree : Tree) (slot : Slot) (node : Node) → Stands slots tree → root_of tree ≡ Some slot → node_at slots slot.place ≡ Some node → Halves slots tree node
+pub halves : (slots : List (Option Node)) (tree : Tree) (slot : Slot) (node : Node) → IsStored slots tree → root_of tree ≡ Some slot → node_at slots slot.place ≡ Some node → Halves slots tree node
 halves slots Leaf slot node stands root there = absurd (none_slot slot root)
 halves slots (Fork place entry height left right) slot node stands root there =
     let at : place ≡ slot.place = ap (λ (s : Slot). s.place) (same_slot (record { place = place }) slot root) in
@@ -152,7 +152,7 @@ no_walk (Fork place entry height left right) e = absurd (none_slot (record { pla
 
 -- a subtree that was changed, and then a node over it
 pub after_left : (old mid new : List (Option Node)) (bytes : List ℕ) (entries : List IndexEntry) (right : Tree) (place : ℕ) (node : Node) (root : Slot)
-    → Makes old mid entries node.left → Stands old right → root_of right ≡ node.right → HasEntry old place node.entry
+    → Makes old mid entries node.left → IsStored old right → root_of right ≡ node.right → HasEntry old place node.entry
     → AreInOrder bytes (entries ++ node.entry ∷ walk right) → Joins mid new place node root → Makes old new (entries ++ node.entry ∷ walk right) (Some root)
 after_left old mid new bytes entries right place node root made stands_right root_right has order joins =
     let apart = front_apart bytes entries (walk right) node.entry order in
@@ -172,7 +172,7 @@ after_left old mid new bytes entries right place node root made stands_right roo
     }
 
 pub after_right : (old mid new : List (Option Node)) (bytes : List ℕ) (entries : List IndexEntry) (left : Tree) (place : ℕ) (node : Node) (root : Slot)
-    → Makes old mid entries node.right → Stands old left → root_of left ≡ node.left → HasEntry old place node.entry
+    → Makes old mid entries node.right → IsStored old left → root_of left ≡ node.left → HasEntry old place node.entry
     → AreInOrder bytes (walk left ++ node.entry ∷ entries) → Joins mid new place node root → Makes old new (walk left ++ node.entry ∷ entries) (Some root)
 after_right old mid new bytes entries left place node root made stands_left root_left has order joins =
     let apart = front_apart bytes (walk left) entries node.entry order in
@@ -232,7 +232,7 @@ raised_right old mid new slot child node lower is there first second bytes left 
 
 -- a node that joins its own subtrees turns its tree
 pub turned : (old new : List (Option Node)) (slot : Slot) (node : Node) (root : Slot) → node_at old slot.place ≡ Some node → Joins old new slot.place node root
-    → Turns old new (Some slot) (Some root)
+    → Rebuilds old new (Some slot) (Some root)
 turned old new slot node root there joins bytes tree stands rooted order =
     let half = halves old tree slot node stands rooted there in
     makes_as old new (walk half.left ++ node.entry ∷ walk half.right) (walk tree) (Some root) (sym half.is)
@@ -240,12 +240,12 @@ turned old new slot node root there joins bytes tree stands rooted order =
     (subst (AreInOrder bytes) half.is order))
 
 -- nothing is written
-pub unturned : (old : List (Option Node)) (root : Option Slot) → Turns old old root root
+pub unturned : (old : List (Option Node)) (root : Option Slot) → Rebuilds old old root root
 unturned old root bytes tree stands rooted order = record { tree = tree; rooted = rooted; stands = stands; is = refl; others = λ p n e out. e }
 
 -- a subtree is turned, and then the node joins
 pub turned_left : (old mid new : List (Option Node)) (place : ℕ) (node next : Node) (root : Slot) → next.entry ≡ node.entry → next.right ≡ node.right
-    → Turns old mid node.left next.left → Joins mid new place next root → Joins old new place node root
+    → Rebuilds old mid node.left next.left → Joins mid new place next root → Joins old new place node root
 turned_left old mid new place node next root same_entry same_right turns joins bytes left right stands_left root_left stands_right root_right has order =
     let as_next : (e : IndexEntry) → e ≡ node.entry → AreInOrder bytes (walk left ++ e ∷ walk right) = λ e q. subst (λ (x : IndexEntry). AreInOrder bytes (walk left ++ x ∷ walk right)) (sym q) order in
     let made = turns bytes left stands_left root_left (front_order bytes (walk left) (node.entry ∷ walk right) order) in
@@ -254,7 +254,7 @@ turned_left old mid new place node next root same_entry same_right turns joins b
     (as_next next.entry same_entry) joins)
 
 pub turned_right : (old mid new : List (Option Node)) (place : ℕ) (node next : Node) (root : Slot) → next.entry ≡ node.entry → next.left ≡ node.left
-    → Turns old mid node.right next.right → Joins mid new place next root → Joins old new place node root
+    → Rebuilds old mid node.right next.right → Joins mid new place next root → Joins old new place node root
 turned_right old mid new place node next root same_entry same_left turns joins bytes left right stands_left root_left stands_right root_right has order =
     let as_next : (e : IndexEntry) → e ≡ node.entry → AreInOrder bytes (walk left ++ e ∷ walk right) = λ e q. subst (λ (x : IndexEntry). AreInOrder bytes (walk left ++ x ∷ walk right)) (sym q) order in
     let made = turns bytes right stands_right root_right (back_order bytes (node.entry ∷ []) (walk right) (back_order bytes (walk left) (node.entry ∷ walk right) order)) in

@@ -23,10 +23,10 @@ walk Leaf = []
 walk (Fork place entry height left right) = walk left ++ entry ∷ walk right
 
 -- its nodes stand in their slots
-abbrev pub Stands : List (Option Node) → Tree → Type 0
-Stands slots Leaf = Unit {0}
-Stands slots (Fork place entry height left right) =
-    (node_at slots place ≡ Some (record { entry = entry; left = root_of left; right = root_of right; height = height })) × Stands slots left × Stands slots right
+abbrev pub IsStored : List (Option Node) → Tree → Type 0
+IsStored slots Leaf = Unit {0}
+IsStored slots (Fork place entry height left right) =
+    (node_at slots place ≡ Some (record { entry = entry; left = root_of left; right = root_of right; height = height })) × IsStored slots left × IsStored slots right
 
 -- the node of a root
 abbrev pub node_below : List (Option Node) → Option Slot → Option Node
@@ -48,7 +48,7 @@ tree_at slots root = grown (length slots) slots root
 pub record HasTree (holds : IndexEntry → Type 0) (slots : List (Option Node)) (root : Option Slot) : Type 0 where
   pub tree : Tree
   pub rooted : root_of tree ≡ root
-  pub stands : Stands slots tree
+  pub stands : IsStored slots tree
   pub few : length (walk tree) ≤ length slots
   pub held : All holds (walk tree)
 
@@ -70,18 +70,18 @@ KeepsTaken old new = (place : ℕ) → IsSome (node_at old place) → IsSome (no
 pub record Makes (old new : List (Option Node)) (entries : List IndexEntry) (root : Option Slot) : Type 0 where
   pub tree : Tree
   pub rooted : root_of tree ≡ root
-  pub stands : Stands new tree
+  pub stands : IsStored new tree
   pub is : walk tree ≡ entries
   pub others : KeepsOthers old new entries
 
 -- the trees below a node's children and its entry between them are the tree below the root now
 abbrev pub Joins : List (Option Node) → List (Option Node) → ℕ → Node → Slot → Type 0
-Joins old new place node root = (bytes : List ℕ) (left right : Tree) → Stands old left → root_of left ≡ node.left → Stands old right → root_of right ≡ node.right
+Joins old new place node root = (bytes : List ℕ) (left right : Tree) → IsStored old left → root_of left ≡ node.left → IsStored old right → root_of right ≡ node.right
     → HasEntry old place node.entry → AreInOrder bytes (walk left ++ node.entry ∷ walk right) → Makes old new (walk left ++ node.entry ∷ walk right) (Some root)
 
 -- the tree below the old root has the same entries below the new one
-abbrev pub Turns : List (Option Node) → List (Option Node) → Option Slot → Option Slot → Type 0
-Turns old new root next = (bytes : List ℕ) (tree : Tree) → Stands old tree → root_of tree ≡ root → AreInOrder bytes (walk tree) → Makes old new (walk tree) next
+abbrev pub Rebuilds : List (Option Node) → List (Option Node) → Option Slot → Option Slot → Type 0
+Rebuilds old new root next = (bytes : List ℕ) (tree : Tree) → IsStored old tree → root_of tree ≡ root → AreInOrder bytes (walk tree) → Makes old new (walk tree) next
 
 -- an entry put in front of the first that fails the test
 abbrev pub put_in : (IndexEntry → Bool) → IndexEntry → List IndexEntry → List IndexEntry
@@ -100,5 +100,5 @@ is_up_to bytes entry other = if entry_before bytes (bytes_at bytes other.key) (S
 -- what an index keeps: its tree, whose nodes are all that are taken
 pub record IsIndex (slots : List (Option Node)) (spare : ℕ) (root : Option Slot) : Type 0 where
   pub rooted : root_of (tree_at slots root) ≡ root
-  pub stands : Stands slots (tree_at slots root)
+  pub stands : IsStored slots (tree_at slots root)
   pub count : length (walk (tree_at slots root)) + spare ≡ length slots

@@ -3,7 +3,7 @@ ghost use Rattle.std.specs.Prelude.{◌≡◌, ℕ, ◌+◌, ◌<◌, length, fa
 ghost use Rattle.keel_region.specs.Order.{entry_before, AreInOrder, IsNew};
 ghost use Rattle.keel_region.specs.Slots.{node_at};
 ghost use Rattle.keel_region.specs.Spans.{bytes_at, IsHeld};
-ghost use Rattle.keel_region.specs.Trees.{Tree, Stands, root_of, walk, Joins, Turns, Makes, KeepsTaken, HasTree, put_in, failing_or, is_up_to};
+ghost use Rattle.keel_region.specs.Trees.{Tree, IsStored, root_of, walk, Joins, Rebuilds, Makes, KeepsTaken, HasTree, put_in, failing_or, is_up_to};
 
 use crate::pool::{Node, Pool, Slot};
 use crate::region::Region;
@@ -125,7 +125,7 @@ fn raise_right(pool: &mut Pool, slot: Slot, node: Node) -> Slot
 
 /// The tree below the root, turned so that it isn't higher on the right.
 fn lean_left(pool: &mut Pool, root: Option<Slot>) -> Option<Slot>
-    ensures turns { Turns pool.old.slots pool.new.slots root result }
+    ensures turns { Rebuilds pool.old.slots pool.new.slots root result }
     ensures taken { KeepsTaken pool.old.slots pool.new.slots }
     ensures spare { pool.new.spare ≡ pool.old.spare }
     ensures length { length pool.new.slots ≡ length pool.old.slots }
@@ -147,7 +147,7 @@ fn lean_left(pool: &mut Pool, root: Option<Slot>) -> Option<Slot>
 
 /// The tree below the root, turned so that it isn't higher on the left.
 fn lean_right(pool: &mut Pool, root: Option<Slot>) -> Option<Slot>
-    ensures turns { Turns pool.old.slots pool.new.slots root result }
+    ensures turns { Rebuilds pool.old.slots pool.new.slots root result }
     ensures taken { KeepsTaken pool.old.slots pool.new.slots }
     ensures spare { pool.new.spare ≡ pool.old.spare }
     ensures length { length pool.new.slots ≡ length pool.old.slots }
@@ -199,7 +199,7 @@ pub(crate) fn insert_below(
     requires room { 0 < pool.old.spare }
     requires tree { HasTree (IsHeld region.now.bytes) pool.old.slots root }
     requires own { IsHeld region.now.bytes entry }
-    ensures puts { (tree : Tree) → Stands pool.old.slots tree → root_of tree ≡ root → AreInOrder region.now.bytes (walk tree) → IsNew region.now.bytes (walk tree) entry → Makes pool.old.slots pool.new.slots (put_in (entry_before region.now.bytes (bytes_at region.now.bytes entry.key) (Some entry.seq)) entry (walk tree)) (Some result) }
+    ensures puts { (tree : Tree) → IsStored pool.old.slots tree → root_of tree ≡ root → AreInOrder region.now.bytes (walk tree) → IsNew region.now.bytes (walk tree) entry → Makes pool.old.slots pool.new.slots (put_in (entry_before region.now.bytes (bytes_at region.now.bytes entry.key) (Some entry.seq)) entry (walk tree)) (Some result) }
     ensures taken { KeepsTaken pool.old.slots pool.new.slots }
     ensures spare { pool.new.spare + 1 ≡ pool.old.spare }
     ensures length { length pool.new.slots ≡ length pool.old.slots }
@@ -252,7 +252,7 @@ pub(crate) fn leftmost(
     best: Option<IndexEntry>,
 ) -> Option<IndexEntry>
     requires { HasTree (λ entry. Unit {0}) pool.now.slots root }
-    ensures { (tree : Tree) → Stands pool.now.slots tree → root_of tree ≡ root → result ≡ failing_or (λ entry. false) (walk tree) best }
+    ensures { (tree : Tree) → IsStored pool.now.slots tree → root_of tree ≡ root → result ≡ failing_or (λ entry. false) (walk tree) best }
 {
     match root {
         None => best,
@@ -273,7 +273,7 @@ pub(crate) fn seek(
     best: Option<IndexEntry>,
 ) -> Option<IndexEntry>
     requires { HasTree (IsHeld region.now.bytes) pool.now.slots root }
-    ensures { (tree : Tree) → Stands pool.now.slots tree → root_of tree ≡ root → AreInOrder region.now.bytes (walk tree) → result ≡ failing_or (entry_before region.now.bytes key.now seq) (walk tree) best }
+    ensures { (tree : Tree) → IsStored pool.now.slots tree → root_of tree ≡ root → AreInOrder region.now.bytes (walk tree) → result ≡ failing_or (entry_before region.now.bytes key.now seq) (walk tree) best }
 {
     match root {
         None => best,
@@ -300,7 +300,7 @@ pub(crate) fn behind(
 ) -> Option<IndexEntry>
     requires tree { HasTree (IsHeld region.now.bytes) pool.now.slots root }
     requires own { IsHeld region.now.bytes entry.now }
-    ensures { (tree : Tree) → Stands pool.now.slots tree → root_of tree ≡ root → AreInOrder region.now.bytes (walk tree) → result ≡ failing_or (is_up_to region.now.bytes entry.now) (walk tree) best }
+    ensures { (tree : Tree) → IsStored pool.now.slots tree → root_of tree ≡ root → AreInOrder region.now.bytes (walk tree) → result ≡ failing_or (is_up_to region.now.bytes entry.now) (walk tree) best }
 {
     match root {
         None => best,

@@ -5,7 +5,7 @@ use Rattle.std.proofs.lemmas.List.{length-append, append-nil, nil_from_length}
 use Rattle.std.proofs.lemmas.Grind.{flat_map-append}
 use Rattle.keel_base.specs.declared.row.Row.{Row}
 use Rattle.keel_base.specs.Keys.{key_lt}
-use Rattle.keel_table.specs.declared.index.IndexEntry.{IndexEntry}
+use Rattle.keel_table.specs.declared.index.BlockEntry.{BlockEntry}
 use Rattle.keel_table.specs.declared.index.Footer.{Footer}
 use Rattle.keel_table.specs.declared.builder.Builder.{Builder}
 use Rattle.keel_base.specs.Rows.{IsRow}
@@ -39,17 +39,17 @@ entry_at_zero block place =
 
 entries-more : (place : ℕ) (blocks : List (List Row)) (block : List Row)
     → entries_from place (blocks ++ block ∷ []) ≡ entries_from place blocks ++ entry_of (place + length (blocks_bytes blocks)) block ∷ []
-entries-more place [] block = ap (λ (e : IndexEntry). e ∷ []) (sym (entry_at_zero block place))
+entries-more place [] block = ap (λ (e : BlockEntry). e ∷ []) (sym (entry_at_zero block place))
 entries-more place (first ∷ blocks) block =
     let size : ℕ = length (rows_bytes first) + 4 in
     let there : place + size + length (blocks_bytes blocks) ≡ place + length (block_bytes first ++ blocks_bytes blocks) =
     omega (arith, length-append (block_bytes first) (blocks_bytes blocks), length-checked (rows_bytes first)) in
-    ap (λ (es : List IndexEntry). entry_of place first ∷ es) (entries-more (place + size) blocks block ∙ ap (λ (n : ℕ). entries_from (place + size) blocks ++ entry_of n block ∷ []) there)
+    ap (λ (es : List BlockEntry). entry_of place first ∷ es) (entries-more (place + size) blocks block ∙ ap (λ (n : ℕ). entries_from (place + size) blocks ++ entry_of n block ∷ []) there)
 
 index-more : (blocks : List (List Row)) (block : List Row) → index_bytes (blocks ++ block ∷ []) ≡ index_bytes blocks ++ entry_bytes (entry_of (length (blocks_bytes blocks)) block)
 index-more blocks block =
     let there : entry_of (0 + length (blocks_bytes blocks)) block ≡ entry_of (length (blocks_bytes blocks)) block = (let e : 0 + length (blocks_bytes blocks) ≡ length (blocks_bytes blocks) = omega arith in ap (λ (n : ℕ). entry_of n block) e) in
-    ap (λ (es : List IndexEntry). flat_map entry_bytes es) (entries-more 0 blocks block) ∙ flat-one entry_bytes (entries_from 0 blocks) (entry_of (0 + length (blocks_bytes blocks)) block) ∙ ap (λ (e : IndexEntry). index_bytes blocks ++ entry_bytes e) there
+    ap (λ (es : List BlockEntry). flat_map entry_bytes es) (entries-more 0 blocks block) ∙ flat-one entry_bytes (entries_from 0 blocks) (entry_of (0 + length (blocks_bytes blocks)) block) ∙ ap (λ (e : BlockEntry). index_bytes blocks ++ entry_bytes e) there
 
 -- ---- a row that leaves the block open
 
@@ -83,7 +83,7 @@ keeps first last rows given b c row spelled key number h is over spells keyed nu
 closed_block : (rest : List Row) (row : Row) → length (rows_bytes rest) < 4096 → 4096 ≤ length (rows_bytes (rest ++ row ∷ [])) → IsClosed (rest ++ row ∷ [])
 closed_block rest row short full = record { is_block = record { front = rest; end = row; parts = refl; short = short }; full = full }
 
-same_entry : (place : ℕ) (block : List Row) (bytes key : List ℕ) → bytes ≡ rows_bytes block → key ≡ last_key [] block → (let e : IndexEntry = record { place = place; size = length bytes; last = key } in e) ≡ entry_of place block
+same_entry : (place : ℕ) (block : List Row) (bytes key : List ℕ) → bytes ≡ rows_bytes block → key ≡ last_key [] block → (let e : BlockEntry = record { place = place; size = length bytes; last = key } in e) ≡ entry_of place block
 same_entry place block bytes key p q = cc
 
 pub closes : (first last : ℕ) (rows : List Row) (given : List ℕ) (b c : Builder) (row : Row) (spelled piece key : List ℕ) (number : ℕ) → IsBuilding first last rows given b → IsRow row → key_lt b.last_key row.key ≡ true
@@ -95,7 +95,7 @@ closes first last rows given b c row spelled piece key number h is over spells k
     let bytes : b.open_rows ++ spelled ≡ rows_bytes block = ap (λ (s : List ℕ). b.open_rows ++ s) spells ∙ ap (λ (s : List ℕ). s ++ row_bytes row) h.open_is ∙ sym (flat-one row_bytes h.rest row) in
     let large : 4096 ≤ length (rows_bytes block) = omega (arith, ap length bytes, length-append b.open_rows spelled, full) in
     let all : given ++ piece ≡ blocks_bytes blocks = ap (λ (p : List ℕ). given ++ p) (pieced ∙ ap checked bytes) ∙ ap (λ (g : List ℕ). g ++ block_bytes block) h.given_is ∙ sym (flat-one block_bytes h.closed block) in
-    let entry : (let made : IndexEntry = record { place = b.place; size = length (b.open_rows ++ spelled); last = key } in made) ≡ entry_of (length (blocks_bytes h.closed)) block =
+    let entry : (let made : BlockEntry = record { place = b.place; size = length (b.open_rows ++ spelled); last = key } in made) ≡ entry_of (length (blocks_bytes h.closed)) block =
     same_entry b.place block (b.open_rows ++ spelled) key bytes (keyed ∙ sym (last_key-more [] h.rest row)) ∙ ap (λ (n : ℕ). entry_of n block) (h.place_is ∙ ap length h.given_is) in
     let P : Builder → Type 0 = IsBuilding first last (rows ++ row ∷ []) (given ++ piece) in
     subst P (sym e) (record {
@@ -111,7 +111,7 @@ closes first last rows given b c row spelled piece key number h is over spells k
       last_is = h.last_is;
       open_is = refl;
       key_is = keyed ∙ sym (last_key-more [] rows row);
-      index_is = ap (λ (i : List ℕ). i ++ entry_bytes (record { place = b.place; size = length (b.open_rows ++ spelled); last = key })) h.index_is ∙ ap (λ (en : IndexEntry). index_bytes h.closed ++ entry_bytes en) entry ∙ sym (index-more h.closed block);
+      index_is = ap (λ (i : List ℕ). i ++ entry_bytes (record { place = b.place; size = length (b.open_rows ++ spelled); last = key })) h.index_is ∙ ap (λ (en : BlockEntry). index_bytes h.closed ++ entry_bytes en) entry ∙ sym (index-more h.closed block);
       place_is = omega (arith, h.place_is, length-append given piece, ap length pieced, length-checked (b.open_rows ++ spelled));
       blocks_is = omega (arith, h.blocks_is, length-more h.closed block);
       rows_is = omega (arith, numbered, h.rows_is, length-more rows row);
@@ -201,7 +201,7 @@ ends_open first last rows given b block entry index end place blocks h some bloc
     let all : List (List Row) = h.closed ++ h.rest ∷ [] in
     let joined : rows ≡ rows_of all = h.joined ∙ sym (flat-one (λ (bl : List Row). bl) h.closed h.rest) in
     let key : b.last_key ≡ last_key [] h.rest = h.key_is ∙ ap (last_key []) (h.joined ∙ ap (λ (rs : List Row). rows_of h.closed ++ rs) last_one.parts ∙ sym (append_assoc (rows_of h.closed) last_one.front (last_one.end ∷ []))) ∙ last_key-more [] (rows_of h.closed ++ last_one.front) last_one.end ∙ sym (last_key-more [] last_one.front last_one.end) ∙ ap (last_key []) (sym last_one.parts) in
-    let entry_is : (let made : IndexEntry = record { place = b.place; size = length b.open_rows; last = b.last_key } in made) ≡ entry_of (length (blocks_bytes h.closed)) h.rest =
+    let entry_is : (let made : BlockEntry = record { place = b.place; size = length b.open_rows; last = b.last_key } in made) ≡ entry_of (length (blocks_bytes h.closed)) h.rest =
     same_entry b.place h.rest b.open_rows b.last_key h.open_is key ∙ ap (λ (n : ℕ). entry_of n h.rest) (h.place_is ∙ ap length h.given_is) in
     let index_is : index ≡ index_bytes all = indexed ∙ ap (λ (e : List ℕ). b.index ++ e) (entered ∙ ap entry_bytes entry_is) ∙ ap (λ (i : List ℕ). i ++ entry_bytes (entry_of (length (blocks_bytes h.closed)) h.rest)) h.index_is ∙ sym (index-more h.closed h.rest) in
     let block_is : block ≡ block_bytes h.rest = blocked ∙ ap checked h.open_is in

@@ -5,7 +5,7 @@ use Rattle.keel_disk.specs.Told.{Told}
 use Rattle.keel_base.specs.declared.file_name.FileName.TheVariants.{Table as TableName}
 use Rattle.keel_table.specs.declared.fault.TableFault.{TableFault}
 use Rattle.keel_table.specs.declared.fault.TableFault.TheVariants as fault
-use Rattle.keel_table.specs.declared.index.IndexEntry.{IndexEntry}
+use Rattle.keel_table.specs.declared.index.BlockEntry.{BlockEntry}
 use Rattle.keel_table.specs.declared.index.Footer.{Footer}
 use Rattle.keel_table.specs.Opening.{Damage, bad_check, bad_shape, and_then, footer_found, entries_found, Opened, opened_with, opened}
 use Rattle.keel_table.specs.Answers.{Finds, Gives, Causes, Answers}
@@ -69,7 +69,7 @@ found_next view first next number (Some told) x result h k = causes_next view fi
 
 -- ---- opening
 
-opened_ok_in : {A : Type 0} (view : A → Opened) (size number : ℕ) (told : Told) (footer : Footer) (entries : List IndexEntry) (x : A) → 52 ≤ size → view x ≡ opened_with footer entries
+opened_ok_in : {A : Type 0} (view : A → Opened) (size number : ℕ) (told : Told) (footer : Footer) (entries : List BlockEntry) (x : A) → 52 ≤ size → view x ≡ opened_with footer entries
     → Gives (footer_found size) (TableName number) told (Ok footer) → Gives (entries_found footer) (TableName number) told (Ok entries) → Gives (opened size) (TableName number) told (Ok (view x))
 unfolding opened
 opened_ok_in view size number told footer entries x le is h k =
@@ -77,8 +77,8 @@ opened_ok_in view size number told footer entries x le is h k =
     let listed : entries_found footer h.0 ≡ Ok entries = ap (entries_found footer) same ∙ k.2 in
     (h.0, h.1, rw (le-leb 52 size le, h.2, listed) (ap (λ (o : Opened). Ok o) (sym is)))
 
-pub opened_ok : {A : Type 0} (view : A → Opened) (size number : ℕ) (told : Option Told) (footer : Footer) (entries : List IndexEntry) (x : A) → 52 ≤ size → view x ≡ opened_with footer entries
-    → Answers (λ (f : Footer). f) (footer_found size) number told (Ok footer) → Answers (λ (es : List IndexEntry). es) (entries_found footer) number told (Ok entries) → Answers view (opened size) number told (Ok x)
+pub opened_ok : {A : Type 0} (view : A → Opened) (size number : ℕ) (told : Option Told) (footer : Footer) (entries : List BlockEntry) (x : A) → 52 ≤ size → view x ≡ opened_with footer entries
+    → Answers (λ (f : Footer). f) (footer_found size) number told (Ok footer) → Answers (λ (es : List BlockEntry). es) (entries_found footer) number told (Ok entries) → Answers view (opened size) number told (Ok x)
 opened_ok view size number None footer entries x le is h k = tt
 opened_ok view size number (Some told) footer entries x le is h k = opened_ok_in view size number told footer entries x le is h k
 
@@ -110,7 +110,7 @@ damaged_in size number told footer d le h k =
     (h.0, h.1, no_entries size h.0 footer d le h.2 (ap (entries_found footer) same ∙ k.2))
 
 unlisted_in : {A : Type 0} (view : A → Opened) (size number : ℕ) (told : Told) (footer : Footer) (e : TableFault) → 52 ≤ size → Gives (footer_found size) (TableName number) told (Ok footer)
-    → Causes {A = List IndexEntry} (λ (es : List IndexEntry). es) (entries_found footer) (TableName number) told (Err e) → Causes {A = A} view (opened size) (TableName number) told (Err e)
+    → Causes {A = List BlockEntry} (λ (es : List BlockEntry). es) (entries_found footer) (TableName number) told (Err e) → Causes {A = A} view (opened size) (TableName number) told (Err e)
 unlisted_in view size number told footer (fault.Device f) le h k = tt
 unlisted_in view size number told footer fault.Absent le h k = k
 unlisted_in view size number told footer (fault.BadCheck stored computed) le h k = damaged_in size number told footer (bad_check stored computed) le h k
@@ -118,6 +118,6 @@ unlisted_in view size number told footer (fault.BadShape at) le h k = damaged_in
 unlisted_in view size number told footer fault.OutOfMemory le h k = tt
 
 pub opened_no_entries : {A : Type 0} (view : A → Opened) (size number : ℕ) (told : Option Told) (footer : Footer) (e : TableFault) → 52 ≤ size → Answers (λ (f : Footer). f) (footer_found size) number told (Ok footer)
-    → Answers {A = List IndexEntry} (λ (es : List IndexEntry). es) (entries_found footer) number told (Err e) → Answers {A = A} view (opened size) number told (Err e)
+    → Answers {A = List BlockEntry} (λ (es : List BlockEntry). es) (entries_found footer) number told (Err e) → Answers {A = A} view (opened size) number told (Err e)
 opened_no_entries view size number None footer e le h k = tt
 opened_no_entries view size number (Some told) footer e le h k = unlisted_in view size number told footer e le h k

@@ -3,7 +3,7 @@ use Rattle.std.proofs.Common.{◌≡◌, ℕ, zero, suc, true, take, refl, arith
 use Rattle.std.specs.List.{AllByRecursion}
 use Rattle.keel_base.specs.declared.row.Row.{Row}
 use Rattle.keel_base.specs.Keys.{key_lt}
-use Rattle.keel_table.specs.declared.index.IndexEntry.{IndexEntry}
+use Rattle.keel_table.specs.declared.index.BlockEntry.{BlockEntry}
 use Rattle.keel_base.specs.Rows.{IsRow}
 use Rattle.keel_table.specs.Spelling.{Ascend, last_key, rows_of}
 use Rattle.keel_table.specs.Opening.{nth_entry}
@@ -19,19 +19,19 @@ ascend_joined : (before : List ℕ) (xs ys : List Row) → Ascend before xs → 
 ascend_joined before [] ys h k = k
 ascend_joined before (x ∷ xs) ys h k = (h.0, ascend_joined x.key xs ys h.1 k)
 
-more : (before : List ℕ) (blocks : List (List Row)) (entries : List IndexEntry) (block : List Row) → FitEntries before blocks entries
+more : (before : List ℕ) (blocks : List (List Row)) (entries : List BlockEntry) (block : List Row) → FitEntries before blocks entries
     → FitCovering (nth_entry before entries (length blocks)) block → FitEntries before (blocks ++ block ∷ []) entries
 more before [] [] block h k = absurd k
 more before [] (e ∷ es) block h k = (k, tt)
 more before (first ∷ blocks) [] block h k = absurd h
 more before (first ∷ blocks) (e ∷ es) block h k = (h.0, more e.last blocks es block h.1 k)
 
-each : (before : List ℕ) (blocks : List (List Row)) (entries : List IndexEntry) → FitEntries before blocks entries → AllByRecursion IsRow (rows_of blocks)
+each : (before : List ℕ) (blocks : List (List Row)) (entries : List BlockEntry) → FitEntries before blocks entries → AllByRecursion IsRow (rows_of blocks)
 each before [] entries h = tt
 each before (block ∷ blocks) [] h = absurd h
 each before (block ∷ blocks) (e ∷ es) h = all_joined IsRow block (rows_of blocks) h.0.each (each e.last blocks es h.1)
 
-rise : (before : List ℕ) (blocks : List (List Row)) (entries : List IndexEntry) → FitEntries before blocks entries → Ascend before (rows_of blocks)
+rise : (before : List ℕ) (blocks : List (List Row)) (entries : List BlockEntry) → FitEntries before blocks entries → Ascend before (rows_of blocks)
 rise before [] entries h = tt
 rise before (block ∷ blocks) [] h = absurd h
 rise before (block ∷ blocks) (e ∷ es) h =
@@ -45,7 +45,7 @@ block_below : (before : List ℕ) (rows : List Row) (key : List ℕ) → Ascend 
 block_below before [] key h lt = tt
 block_below before (row ∷ rows) key h lt = (below_last key row rows h.1 lt, block_below row.key rows key h.1 lt)
 
-pub rows_below : (n : ℕ) (before : List ℕ) (blocks : List (List Row)) (entries : List IndexEntry) (key : List ℕ) → FitEntries before blocks entries → AreBelow entries key n
+pub rows_below : (n : ℕ) (before : List ℕ) (blocks : List (List Row)) (entries : List BlockEntry) (key : List ℕ) → FitEntries before blocks entries → AreBelow entries key n
     → AllByRecursion (IsBelow key) (rows_of (take n blocks))
 rows_below zero before [] entries key h below = tt
 rows_below zero before (block ∷ blocks) entries key h below = tt

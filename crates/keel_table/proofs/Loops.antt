@@ -8,7 +8,7 @@ use Rattle.keel_fields.specs.declared.error.FieldError.{FieldError}
 use Rattle.keel_fields.specs.declared.error.FieldError.TheVariants as errors
 use Rattle.keel_fields.specs.Reading.{Read, ◌>>=◌, Fails}
 use Rattle.keel_fields.proofs.Fields.{check_ok}
-use Rattle.keel_table.specs.declared.index.IndexEntry.{IndexEntry}
+use Rattle.keel_table.specs.declared.index.BlockEntry.{BlockEntry}
 use Rattle.keel_table.specs.Spelling.{last_key}
 use Rattle.keel_table.specs.Fields.{next_row_at, rows_at, entry_fits, fitting_entry, next_entry_at, entries_at, last_of}
 use Rattle.keel_table.proofs.Adding.{last_key-more}
@@ -69,7 +69,7 @@ rows_spent front most i before last bytes total le so_far =
 
 -- ---- entries
 
-pub last_of-more : (before : Option (List ℕ)) (entries : List IndexEntry) (e : IndexEntry) → last_of before (entries ++ e ∷ []) ≡ Some e.last
+pub last_of-more : (before : Option (List ℕ)) (entries : List BlockEntry) (e : BlockEntry) → last_of before (entries ++ e ∷ []) ≡ Some e.last
 last_of-more before [] e = refl
 last_of-more before (first ∷ entries) e = last_of-more (Some first.last) entries e
 
@@ -77,7 +77,7 @@ pub entries_begin : (index blocks : ℕ) (bytes : List ℕ) → behind [] (entri
 entries_begin index blocks bytes =
     let k : blocks - 0 ≡ blocks = omega arith in begins (entries_at index (blocks - 0) 0 None bytes) ∙ ap (λ (n : ℕ). entries_at index n 0 None bytes) k
 
-pub entries_go_on : (front : List IndexEntry) (index blocks i place next : ℕ) (bytes : List ℕ) (e : IndexEntry) (after : List ℕ) (total : Result (List IndexEntry) ℕ) → i < blocks → next ≡ place + (e.size + 4)
+pub entries_go_on : (front : List BlockEntry) (index blocks i place next : ℕ) (bytes : List ℕ) (e : BlockEntry) (after : List ℕ) (total : Result (List BlockEntry) ℕ) → i < blocks → next ≡ place + (e.size + 4)
     → next_entry_at index place (last_of None front) bytes ≡ Ok (e, after)
     → behind front (entries_at index (blocks - i) place (last_of None front) bytes) ≡ total → behind (front ++ e ∷ []) (entries_at index (blocks - (i + 1)) next (last_of None (front ++ e ∷ [])) after) ≡ total
 unfolding entries_at
@@ -88,7 +88,7 @@ entries_go_on front index blocks i place next bytes e after total lt there h so_
     ap (λ (key : Option (List ℕ)). behind (front ++ e ∷ []) (entries_at index (blocks - (i + 1)) next key after)) (last_of-more None front e)
     ∙ ap (λ (n : ℕ). behind (front ++ e ∷ []) (entries_at index (blocks - (i + 1)) n (Some e.last) after)) there ∙ sym go ∙ so_far
 
-pub entries_end : (error : FieldError) (front : List IndexEntry) (index blocks i place : ℕ) (bytes : List ℕ) (total : Result (List IndexEntry) ℕ) → i < blocks
+pub entries_end : (error : FieldError) (front : List BlockEntry) (index blocks i place : ℕ) (bytes : List ℕ) (total : Result (List BlockEntry) ℕ) → i < blocks
     → Fails error (next_entry_at index place (last_of None front) bytes) → behind front (entries_at index (blocks - i) place (last_of None front) bytes) ≡ total → Fails error total
 unfolding entries_at
 entries_end errors.OutOfMemory front index blocks i place bytes total lt h so_far = tt
@@ -97,15 +97,15 @@ entries_end (errors.Bad f) front index blocks i place bytes total lt h so_far =
     let go : behind front (entries_at index (blocks - i) place (last_of None front) bytes) ≡ Err f = rw (k, h) refl in
     sym so_far ∙ go
 
-pub entries_done : (front : List IndexEntry) (index blocks i place : ℕ) (bytes : List ℕ) (total : Result (List IndexEntry) ℕ) → blocks ≤ i → ((length bytes == 0) && (place == index)) ≡ true
+pub entries_done : (front : List BlockEntry) (index blocks i place : ℕ) (bytes : List ℕ) (total : Result (List BlockEntry) ℕ) → blocks ≤ i → ((length bytes == 0) && (place == index)) ≡ true
     → behind front (entries_at index (blocks - i) place (last_of None front) bytes) ≡ total → total ≡ Ok front
 unfolding entries_at
 entries_done front index blocks i place bytes total le ends so_far =
     let k : blocks - i ≡ 0 = omega arith in
     let go : behind front (entries_at index (blocks - i) place (last_of None front) bytes) ≡ Ok (front ++ []) = rw (k, ends) refl in
-    sym so_far ∙ go ∙ ap (λ (es : List IndexEntry). Ok es) (append-nil front)
+    sym so_far ∙ go ∙ ap (λ (es : List BlockEntry). Ok es) (append-nil front)
 
-pub entries_left : (front : List IndexEntry) (index blocks i place : ℕ) (bytes : List ℕ) (total : Result (List IndexEntry) ℕ) → blocks ≤ i → ((length bytes == 0) && (place == index)) ≡ false
+pub entries_left : (front : List BlockEntry) (index blocks i place : ℕ) (bytes : List ℕ) (total : Result (List BlockEntry) ℕ) → blocks ≤ i → ((length bytes == 0) && (place == index)) ≡ false
     → behind front (entries_at index (blocks - i) place (last_of None front) bytes) ≡ total → total ≡ Err (length bytes)
 unfolding entries_at
 entries_left front index blocks i place bytes total le ends so_far =
@@ -114,19 +114,19 @@ entries_left front index blocks i place bytes total le ends so_far =
     sym so_far ∙ go
 
 -- an entry that was taken
-pub taken_entry : (left index place : ℕ) (before : Option (List ℕ)) (read : Read IndexEntry) (x : IndexEntry × List ℕ) → fitting_entry left index place before read ≡ Ok x
+pub taken_entry : (left index place : ℕ) (before : Option (List ℕ)) (read : Read BlockEntry) (x : BlockEntry × List ℕ) → fitting_entry left index place before read ≡ Ok x
     → (read ≡ Ok x) × (entry_fits index place before x.0 ≡ true)
 taken_entry left index place before (Err at) x e = absurd cc
 taken_entry left index place before (Ok y) x e =
     let g = check_ok (entry_fits index place before y.0) left y x e in
-    (ap (λ (z : IndexEntry × List ℕ). Ok z) g.1, subst (λ (z : IndexEntry × List ℕ). entry_fits index place before z.0 ≡ true) g.1 g.0)
+    (ap (λ (z : BlockEntry × List ℕ). Ok z) g.1, subst (λ (z : BlockEntry × List ℕ). entry_fits index place before z.0 ≡ true) g.1 g.0)
 
 pub both_hold : (b c : Bool) → (b && c) ≡ true → (b ≡ true) × (c ≡ true)
 both_hold true true h = (refl, refl)
 both_hold true false h = absurd cc
 both_hold false c h = absurd cc
 
-pub entry_within : (index place : ℕ) (before : Option (List ℕ)) (bytes : List ℕ) (x : IndexEntry × List ℕ) → next_entry_at index place before bytes ≡ Ok x → place + (x.0.size + 4) ≤ index
+pub entry_within : (index place : ℕ) (before : Option (List ℕ)) (bytes : List ℕ) (x : BlockEntry × List ℕ) → next_entry_at index place before bytes ≡ Ok x → place + (x.0.size + 4) ≤ index
 unfolding next_entry_at
 entry_within index place before bytes x e =
     let t = taken_entry (length bytes) index place before _ x e in
@@ -144,10 +144,10 @@ some_is x y e = cc
 none_is : {A : Type 0} (x : A) → found x ≡ (let none : Option A = None in none) → ⊥
 none_is x e = cc
 
-last_entry_behind : (n : ℕ) (first : IndexEntry) (entries : List IndexEntry) (e : IndexEntry) → n ≡ length entries → found e ≡ slice_get (first ∷ entries) n → last_of (Some first.last) entries ≡ Some e.last
-last_entry_behind n first [] e is h = ap (λ (x : IndexEntry). Some x.last) (sym (some_is e first (h ∙ ap (slice_get (first ∷ [])) is)))
+last_entry_behind : (n : ℕ) (first : BlockEntry) (entries : List BlockEntry) (e : BlockEntry) → n ≡ length entries → found e ≡ slice_get (first ∷ entries) n → last_of (Some first.last) entries ≡ Some e.last
+last_entry_behind n first [] e is h = ap (λ (x : BlockEntry). Some x.last) (sym (some_is e first (h ∙ ap (slice_get (first ∷ [])) is)))
 last_entry_behind n first (next ∷ entries) e is h = last_entry_behind (length entries) next entries e refl (h ∙ ap (slice_get (first ∷ next ∷ entries)) is)
 
-pub last_entry : (entries : List IndexEntry) (e : IndexEntry) → found e ≡ slice_get entries (length entries - 1) → last_of None entries ≡ Some e.last
+pub last_entry : (entries : List BlockEntry) (e : BlockEntry) → found e ≡ slice_get entries (length entries - 1) → last_of None entries ≡ Some e.last
 last_entry [] e h = absurd (none_is e h)
 last_entry (first ∷ entries) e h = last_entry_behind (length entries) first entries e refl (h ∙ ap (slice_get (first ∷ entries)) (omega arith))

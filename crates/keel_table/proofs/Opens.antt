@@ -11,7 +11,7 @@ use Rattle.keel_base.specs.declared.row.Row.{Row}
 use Rattle.keel_base.specs.declared.row.Kind.{Kind}
 use Rattle.keel_base.specs.declared.row.Kind.TheVariants as kinds
 use Rattle.keel_base.specs.Keys.{key_cmp, key_lt, key_eq}
-use Rattle.keel_table.specs.declared.index.IndexEntry.{IndexEntry}
+use Rattle.keel_table.specs.declared.index.BlockEntry.{BlockEntry}
 use Rattle.keel_table.specs.declared.index.Footer.{Footer}
 use Rattle.keel_base.specs.Rows.{most_value, IsRow}
 use Rattle.keel_table.specs.Spelling.{row_bytes, rows_bytes, Ascend, last_key, IsBlock, AreBlocks, rows_of, checked, block_bytes, blocks_bytes, entry_bytes, IsEntry, entry_of, entries_from, index_bytes, footer_body, footer_bytes, footer_of, table_bytes, FooterFits}
@@ -86,7 +86,7 @@ over_before : (before : Option (List ℕ)) (key : List ℕ) → key_lt (unwrap_o
 over_before None key h = refl
 over_before (Some k) key h = h
 
-next_again : (index place : ℕ) (before : Option (List ℕ)) (e : IndexEntry) (rest : List ℕ) → IsEntry e → e.place ≡ place → place + (e.size + 4) ≤ index → is_over before e.last ≡ true
+next_again : (index place : ℕ) (before : Option (List ℕ)) (e : BlockEntry) (rest : List ℕ) → IsEntry e → e.place ≡ place → place + (e.size + 4) ≤ index → is_over before e.last ≡ true
     → next_entry_at index place before (entry_bytes e ++ rest) ≡ Ok (e, rest)
 unfolding next_entry_at
 next_again index place before e rest is there within over =
@@ -101,7 +101,7 @@ entries_again index place before [] cut each rise sum fits =
     rw ends refl
 entries_again index place before (block ∷ blocks) cut each rise sum fits =
     let key : List ℕ = unwrap_or before [] in
-    let e : IndexEntry = entry_of place block in
+    let e : BlockEntry = entry_of place block in
     let rows = all_parts IsRow block (rows_of blocks) each in
     let rises = ascend_parts key block (rows_of blocks) rise in
     let last : last_key key block ≡ last_key [] block = same_last key [] block cut.0 in
@@ -203,7 +203,7 @@ gets_case : (bytes key : List ℕ) (row : Option Row) (b : Bool) (x y : Option C
 gets_case bytes key row true x y h k = h refl
 gets_case bytes key row false x y h k = k refl
 
-row_again : (before : List ℕ) (e : IndexEntry) (block : List Row) (bytes key : List ℕ) → block_found before e bytes ≡ Ok block → row_found (before, e) key bytes ≡ Ok (row_of key block)
+row_again : (before : List ℕ) (e : BlockEntry) (block : List Row) (bytes key : List ℕ) → block_found before e bytes ≡ Ok block → row_found (before, e) key bytes ≡ Ok (row_of key block)
 unfolding row_found
 row_again before e block bytes key read = rw read refl
 
@@ -211,8 +211,8 @@ gets_again : (bytes before : List ℕ) (place : ℕ) (blocks : List (List Row)) 
     → GetGives bytes key (row_of key (rows_of blocks)) (covering before (entries_from place blocks) key)
 gets_again bytes before place [] key whole cut rise = refl
 gets_again bytes before place (block ∷ blocks) key whole cut rise =
-    let e : IndexEntry = entry_of place block in
-    let es : List IndexEntry = entries_from (place + (length (rows_bytes block) + 4)) blocks in
+    let e : BlockEntry = entry_of place block in
+    let es : List BlockEntry = entries_from (place + (length (rows_bytes block) + 4)) blocks in
     let rises = ascend_parts before block (rows_of blocks) rise in
     let last : last_key before block ≡ last_key [] block = same_last before [] block cut.0 in
     let behind : Ascend e.last (rows_of blocks) = subst (λ (k : List ℕ). Ascend k (rows_of blocks)) last rises.1 in
@@ -233,7 +233,7 @@ footer_read size f fits whole =
     let sum : eqb (f.index + (f.size + 52)) size ≡ true = eq-eqb (f.index + (f.size + 52)) size whole in
     rw (footer_again f fits, sum) refl
 
-opens_again : (size : ℕ) (bytes : List ℕ) (f : Footer) (entries : List IndexEntry) → 52 ≤ size → footer_found size bytes ≡ Ok f → entries_found f bytes ≡ Ok entries → opened size bytes ≡ Ok (opened_with f entries)
+opens_again : (size : ℕ) (bytes : List ℕ) (f : Footer) (entries : List BlockEntry) → 52 ≤ size → footer_found size bytes ≡ Ok f → entries_found f bytes ≡ Ok entries → opened size bytes ≡ Ok (opened_with f entries)
 unfolding opened
 opens_again size bytes f entries long footer listed = rw (le-leb 52 size long, footer, listed) refl
 
@@ -244,7 +244,7 @@ footer_found_again size front bytes f parts long fits whole =
     let read : checked_at (size - 48) 44 bytes ≡ Ok (footer_body f) = ap (checked_at (size - 48) 44) apart ∙ checked_again front (footer_body f) [] (size - 48) 44 (omega (arith, long)) (sym (length-footer f)) in
     rw read (footer_read size f fits whole)
 
-entries_found_again : (bytes index behind front : List ℕ) (f : Footer) (entries : List IndexEntry) → bytes ≡ front ++ (checked index ++ behind) → f.index ≡ length front → f.size ≡ length index
+entries_found_again : (bytes index behind front : List ℕ) (f : Footer) (entries : List BlockEntry) → bytes ≡ front ++ (checked index ++ behind) → f.index ≡ length front → f.size ≡ length index
     → entries_at f.index f.blocks 0 None index ≡ Ok entries → entries_found f bytes ≡ Ok entries
 unfolding entries_found
 entries_found_again bytes index behind front f entries parts there sized listed =

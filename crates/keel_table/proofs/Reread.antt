@@ -13,7 +13,7 @@ use Rattle.keel_base.specs.Keys.{key_cmp, key_lt}
 use Rattle.keel_frag.specs.Checksum.{crc32c, mask}
 use Rattle.keel_fields.specs.Reading.{Read, number_at, bounded_at, bytes_at, linked, both}
 use Rattle.keel_fields.proofs.Fields.{IsBytes, IsBytes-rest, Takes, IsField, Between, wide32, wide64, number_field, bounded_field, bytes_takes, bytes_again, sized_field, both_field, linked_field, made_field, refit_field}
-use Rattle.keel_table.specs.declared.index.IndexEntry.{IndexEntry}
+use Rattle.keel_table.specs.declared.index.BlockEntry.{BlockEntry}
 use Rattle.keel_table.specs.declared.index.Footer.{Footer}
 use Rattle.keel_base.specs.Rows.{most_value, IsRow}
 use Rattle.keel_table.specs.Spelling.{number, count, kind_byte, row_bytes, rows_bytes, Ascend, last_key, IsBlock, checked, entry_bytes, IsEntry, magic, footer_body, FooterFits}
@@ -210,7 +210,7 @@ all_again before (row ∷ rows) is each rise =
 
 -- ---- entries
 
-abbrev split_entry : IndexEntry → (ℕ × ℕ) × List ℕ
+abbrev split_entry : BlockEntry → (ℕ × ℕ) × List ℕ
 split_entry e = ((e.place, e.size), e.last)
 
 entry_parts : IsField entry_at (λ e. (number e.place ++ count e.size) ++ (count (length e.last) ++ e.last)) (λ e. ((e.place < 2 ^ 64) × (e.size < 2 ^ 32)) × (length e.last < 2 ^ 32))

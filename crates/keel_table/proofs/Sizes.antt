@@ -4,7 +4,7 @@ use Rattle.std.proofs.lemmas.Bool.{eqb-true, and_parts}
 use Rattle.std.specs.List.{flat_map, AllByRecursion}
 use Rattle.std.proofs.lemmas.List.{length-append, append-nil}
 use Rattle.keel_base.specs.declared.row.Row.{Row}
-use Rattle.keel_table.specs.declared.index.IndexEntry.{IndexEntry}
+use Rattle.keel_table.specs.declared.index.BlockEntry.{BlockEntry}
 use Rattle.keel_table.specs.declared.index.Footer.{Footer}
 use Rattle.keel_base.specs.Rows.{IsRow}
 use Rattle.keel_table.specs.Spelling.{number, count, row_bytes, rows_bytes, IsBlock, rows_of, checked, block_bytes, blocks_bytes, entry_bytes, IsEntry, entry_of, entries_from, index_bytes, footer_body, footer_bytes, footer_of, table_bytes}
@@ -19,7 +19,7 @@ use Rattle.keel_table.proofs.Reread.{rows_long, length-footer}
 use Rattle.keel_table.proofs.Spelled.{needs_ok, then_ok, blocks_spelled, indexes_spelled, footers_spelled}
 use Rattle.keel_table.proofs.Opens.{are_blocks, all_parts, end_row, most}
 
-length-entry : (e : IndexEntry) → length (entry_bytes e) ≡ 16 + length e.last
+length-entry : (e : BlockEntry) → length (entry_bytes e) ≡ 16 + length e.last
 length-entry e =
     let behind : List ℕ = count (length e.last) ++ e.last in
     let sizes : List ℕ = count e.size ++ behind in
@@ -66,7 +66,7 @@ one_bytes row =
 
 one_index : (row : Row) → length (index_bytes ((row ∷ []) ∷ [])) ≡ 16 + length row.key
 one_index row =
-    let e : IndexEntry = entry_of 0 (row ∷ []) in
+    let e : BlockEntry = entry_of 0 (row ∷ []) in
     omega (arith, length-append (entry_bytes e) [], length-entry e)
 
 pub one_row_size : OneRowSize
@@ -125,7 +125,7 @@ tables_are_small first last rows bytes table =
 -- ---- files that open
 
 -- the blocks of entries end no farther behind than their sizes tell
-index_most : (index place : ℕ) (before : Option (List ℕ)) (entries : List IndexEntry) → AllByRecursion IsEntry entries → in_order index place before entries ≡ true → index ≤ place + 4294967299 * length entries
+index_most : (index place : ℕ) (before : Option (List ℕ)) (entries : List BlockEntry) → AllByRecursion IsEntry entries → in_order index place before entries ≡ true → index ≤ place + 4294967299 * length entries
 index_most index place before [] each follow =
     let there : place ≡ index = eqb-true place index follow in
     omega (arith, there)
@@ -135,12 +135,12 @@ index_most index place before (e ∷ entries) each follow =
     let size : e.size < 2 ^ 32 = each.0.size in
     omega (arith, behind, size)
 
-entries_least : (entries : List IndexEntry) → 16 * length entries ≤ length (flat_map entry_bytes entries)
+entries_least : (entries : List BlockEntry) → 16 * length entries ≤ length (flat_map entry_bytes entries)
 entries_least [] = omega arith
 entries_least (e ∷ entries) = omega (arith, entries_least entries, length-append (entry_bytes e) (flat_map entry_bytes entries), length-entry e)
 
 -- the rows of blocks that are whole, each of which has a byte at least
-rows_within : (index place : ℕ) (over : Option (List ℕ)) (before bytes : List ℕ) (entries : List IndexEntry) (blocks : List (List Row)) → AreBytes bytes → in_order index place over entries ≡ true
+rows_within : (index place : ℕ) (over : Option (List ℕ)) (before bytes : List ℕ) (entries : List BlockEntry) (blocks : List (List Row)) → AreBytes bytes → in_order index place over entries ≡ true
     → AreWhole bytes before entries blocks → place + length (rows_of blocks) ≤ index
 rows_within index place over before bytes [] [] are follow whole =
     let there : place ≡ index = eqb-true place index follow in
@@ -153,7 +153,7 @@ rows_within index place over before bytes (e ∷ entries) (block ∷ blocks) are
     let sized : length (rows_bytes block) ≡ e.size = ((blocks_spelled before e bytes block are).0 whole.0).sized in
     omega (arith, behind, sized, rows_long block, length-append block (rows_of blocks))
 
-small : (size : ℕ) (bytes : List ℕ) (f : Footer) (entries : List IndexEntry) → AreBytes bytes → IsFooterAt size bytes f → IsIndexAt f bytes entries
+small : (size : ℕ) (bytes : List ℕ) (f : Footer) (entries : List BlockEntry) → AreBytes bytes → IsFooterAt size bytes f → IsIndexAt f bytes entries
     → (size < 2 ^ 61) × ((blocks : List (List Row)) → AreWhole bytes [] entries blocks → length (rows_of blocks) ≤ size)
 small size bytes f entries are footer index =
     let most_places : f.index ≤ 0 + 4294967299 * length entries = index_most f.index 0 None entries index.each index.follow in
@@ -167,7 +167,7 @@ small size bytes f entries are footer index =
           omega (arith, within, whole_size),
     )
 
-opened_is : (f : Footer) (entries : List IndexEntry) (o : Opened) → (let found : Result Opened Damage = Ok (opened_with f entries) in found) ≡ Ok o → opened_with f entries ≡ o
+opened_is : (f : Footer) (entries : List BlockEntry) (o : Opened) → (let found : Result Opened Damage = Ok (opened_with f entries) in found) ≡ Ok o → opened_with f entries ≡ o
 opened_is f entries o e = cc
 
 pub files_are_small : FilesAreSmall

@@ -15,7 +15,7 @@ use Rattle.keel_disk.specs.Image.{AreBytes}
 use Rattle.keel_frag.specs.Checksum.{crc32c, mask}
 use Rattle.keel_fields.specs.Reading.{Read, ◌>>=◌}
 use Rattle.keel_fields.proofs.Fields.{IsBytes, bind_ok, check_ok, ok_is, Takes, wide32}
-use Rattle.keel_table.specs.declared.index.IndexEntry.{IndexEntry}
+use Rattle.keel_table.specs.declared.index.BlockEntry.{BlockEntry}
 use Rattle.keel_table.specs.declared.index.Footer.{Footer}
 use Rattle.keel_base.specs.Rows.{IsRow}
 use Rattle.keel_table.specs.Spelling.{number, count, row_bytes, rows_bytes, Ascend, last_key, checked, entry_bytes, IsEntry, magic, footer_body}
@@ -187,18 +187,18 @@ all_rows_again before last (row ∷ rows) some each rise ends =
     rows_again (length (rows_bytes (row ∷ rows))) before last row rows (omega (arith, rows_long rows, length-append (row_bytes row) (rows_bytes rows), length-row row)) each rise (sym ends)
 
 -- what is read from bytes fits the entry that it was read for, whichever bytes they are
-pub rows_fit : (before : List ℕ) (e : IndexEntry) (body : List ℕ) (rows : List Row) → IsBytes body → all_rows_at before e.last body ≡ Ok rows → FitEntry before e rows
+pub rows_fit : (before : List ℕ) (e : BlockEntry) (body : List ℕ) (rows : List Row) → IsBytes body → all_rows_at before e.last body ≡ Ok rows → FitEntry before e rows
 rows_fit before e body rows fits read =
     let t = rows_take (length body) before e.last body rows fits read in
     record { some = t.some; each = t.each; rise = t.rise; last = t.ends }
 
-pub found_fits : (before : List ℕ) (e : IndexEntry) (body : List ℕ) (result : Result (List Row) TableFault) → IsBytes body → Finds (λ (rows : List Row). rows) result (rows_in before e body) → IfOk result (FitEntry before e)
+pub found_fits : (before : List ℕ) (e : BlockEntry) (body : List ℕ) (result : Result (List Row) TableFault) → IsBytes body → Finds (λ (rows : List Row). rows) result (rows_in before e body) → IfOk result (FitEntry before e)
 found_fits before e body (Ok rows) fits h = rows_fit before e body rows fits (ending_ok (e.place + e.size) (all_rows_at before e.last body) rows h)
 found_fits before e body (Err fault) fits h = tt
 
 -- ---- blocks
 
-block_takes : (before : List ℕ) (e : IndexEntry) (bytes : List ℕ) (rows : List Row) → AreBytes bytes → block_found before e bytes ≡ Ok rows → IsBlockAt before e bytes rows
+block_takes : (before : List ℕ) (e : BlockEntry) (bytes : List ℕ) (rows : List Row) → AreBytes bytes → block_found before e bytes ≡ Ok rows → IsBlockAt before e bytes rows
 unfolding block_found
 block_takes before e bytes rows are h =
     let body = then_ok (checked_at e.place e.size bytes) (rows_in before e) rows h in
@@ -207,7 +207,7 @@ block_takes before e bytes rows are h =
     let t = rows_take (length body.0) before e.last body.0 rows (are_bytes body.0 part.bytes) read in
     record { spelled = part.spelled ∙ ap checked t.spelled; sized = ap length (sym t.spelled) ∙ part.sized; some = t.some; each = t.each; rise = t.rise; last = t.ends }
 
-block_again : (before : List ℕ) (e : IndexEntry) (bytes : List ℕ) (rows : List Row) → IsBlockAt before e bytes rows → block_found before e bytes ≡ Ok rows
+block_again : (before : List ℕ) (e : BlockEntry) (bytes : List ℕ) (rows : List Row) → IsBlockAt before e bytes rows → block_found before e bytes ≡ Ok rows
 unfolding block_found
 block_again before e bytes rows is =
     let read : checked_at e.place e.size bytes ≡ Ok (rows_bytes rows) = part_again e.place e.size bytes (rows_bytes rows) is.spelled is.sized in
@@ -220,13 +220,13 @@ blocks_spelled before e bytes rows are = (block_takes before e bytes rows are, b
 -- ---- the index
 
 -- entries that the bytes are, of blocks that follow each other
-record AreEntries (index place : ℕ) (before : Option (List ℕ)) (blocks : ℕ) (bytes : List ℕ) (entries : List IndexEntry) : Type 0 where
+record AreEntries (index place : ℕ) (before : Option (List ℕ)) (blocks : ℕ) (bytes : List ℕ) (entries : List BlockEntry) : Type 0 where
   spelled : bytes ≡ flat_map entry_bytes entries
   counted : length entries ≡ blocks
   each : AllByRecursion IsEntry entries
   follow : in_order index place before entries ≡ true
 
-next_entry_takes : (index place : ℕ) (before : Option (List ℕ)) (bytes : List ℕ) (x : IndexEntry × List ℕ) → IsBytes bytes → next_entry_at index place before bytes ≡ Ok x
+next_entry_takes : (index place : ℕ) (before : Option (List ℕ)) (bytes : List ℕ) (x : BlockEntry × List ℕ) → IsBytes bytes → next_entry_at index place before bytes ≡ Ok x
     → Takes bytes (entry_bytes x.0) x.1 × IsEntry x.0 × (entry_fits index place before x.0 ≡ true)
 unfolding next_entry_at
 next_entry_takes index place before bytes x fits e =
@@ -234,7 +234,7 @@ next_entry_takes index place before bytes x fits e =
     let t = entry_field.takes bytes x fits taken.0 in
     (t.0, t.1, taken.1)
 
-entries_take : (index blocks place : ℕ) (before : Option (List ℕ)) (bytes : List ℕ) (entries : List IndexEntry) → IsBytes bytes → entries_at index blocks place before bytes ≡ Ok entries
+entries_take : (index blocks place : ℕ) (before : Option (List ℕ)) (bytes : List ℕ) (entries : List BlockEntry) → IsBytes bytes → entries_at index blocks place before bytes ≡ Ok entries
     → AreEntries index place before blocks bytes entries
 unfolding entries_at
 entries_take index zero place before bytes entries fits e =
@@ -255,17 +255,17 @@ entries_take index (suc blocks) place before bytes entries fits e =
       follow = and_from (entry_fits index place before x.0.0) (in_order index (place + (x.0.0.size + 4)) (Some x.0.0.last) rest.0) t.2 others.follow;
     })
 
-fitting_again : (left index place : ℕ) (before : Option (List ℕ)) (x : IndexEntry × List ℕ) → entry_fits index place before x.0 ≡ true → fitting_entry left index place before (Ok x) ≡ Ok x
+fitting_again : (left index place : ℕ) (before : Option (List ℕ)) (x : BlockEntry × List ℕ) → entry_fits index place before x.0 ≡ true → fitting_entry left index place before (Ok x) ≡ Ok x
 fitting_again left index place before x fits = chosen (entry_fits index place before x.0) (Ok x) (Err left) fits
 
-next_entry_again : (index place : ℕ) (before : Option (List ℕ)) (e : IndexEntry) (rest : List ℕ) → IsEntry e → entry_fits index place before e ≡ true
+next_entry_again : (index place : ℕ) (before : Option (List ℕ)) (e : BlockEntry) (rest : List ℕ) → IsEntry e → entry_fits index place before e ≡ true
     → next_entry_at index place before (entry_bytes e ++ rest) ≡ Ok (e, rest)
 unfolding next_entry_at
 next_entry_again index place before e rest is fits =
     let bytes : List ℕ = entry_bytes e ++ rest in
     ap (fitting_entry (length bytes) index place before) (entry_field.again e rest is) ∙ fitting_again (length bytes) index place before (e, rest) fits
 
-entries_again : (index place : ℕ) (before : Option (List ℕ)) (entries : List IndexEntry) → AllByRecursion IsEntry entries → in_order index place before entries ≡ true
+entries_again : (index place : ℕ) (before : Option (List ℕ)) (entries : List BlockEntry) → AllByRecursion IsEntry entries → in_order index place before entries ≡ true
     → entries_at index (length entries) place before (flat_map entry_bytes entries) ≡ Ok entries
 unfolding entries_at
 entries_again index place before [] each follow = rw follow refl
@@ -276,7 +276,7 @@ entries_again index place before (e ∷ entries) each follow =
     let rest = entries_again index (place + (e.size + 4)) (Some e.last) entries each.1 fits.1 in
     rw here (rw rest refl)
 
-index_takes : (f : Footer) (bytes : List ℕ) (entries : List IndexEntry) → AreBytes bytes → entries_found f bytes ≡ Ok entries → IsIndexAt f bytes entries
+index_takes : (f : Footer) (bytes : List ℕ) (entries : List BlockEntry) → AreBytes bytes → entries_found f bytes ≡ Ok entries → IsIndexAt f bytes entries
 unfolding entries_found
 index_takes f bytes entries are h =
     let body = then_ok (checked_at f.index f.size bytes) (entries_in f) entries h in
@@ -285,7 +285,7 @@ index_takes f bytes entries are h =
     let t = entries_take f.index f.blocks 0 None body.0 entries (are_bytes body.0 part.bytes) read in
     record { spelled = part.spelled ∙ ap checked t.spelled; sized = ap length (sym t.spelled) ∙ part.sized; counted = t.counted; each = t.each; follow = t.follow }
 
-index_again : (f : Footer) (bytes : List ℕ) (entries : List IndexEntry) → IsIndexAt f bytes entries → entries_found f bytes ≡ Ok entries
+index_again : (f : Footer) (bytes : List ℕ) (entries : List BlockEntry) → IsIndexAt f bytes entries → entries_found f bytes ≡ Ok entries
 unfolding entries_found
 index_again f bytes entries is =
     let read : checked_at f.index f.size bytes ≡ Ok (flat_map entry_bytes entries) = part_again f.index f.size bytes (flat_map entry_bytes entries) is.spelled is.sized in

@@ -3,13 +3,13 @@ use Rattle.std.specs.Prelude.{◌≡◌, ℕ, ◌<◌, true, List, [], ◌∷◌
 use Rattle.std.specs.List.{AllByRecursion}
 use Rattle.keel_base.specs.declared.row.Row.{Row}
 use Rattle.keel_base.specs.Keys.{key_lt}
-use Rattle.keel_table.specs.declared.index.IndexEntry.{IndexEntry}
+use Rattle.keel_table.specs.declared.index.BlockEntry.{BlockEntry}
 use Rattle.keel_base.specs.Rows.{IsRow}
 use Rattle.keel_table.specs.Spelling.{Ascend, last_key, rows_of}
 use Rattle.keel_table.specs.Opening.{Covering, nth_entry}
 
 -- rows whose keys rise, from over the key of the entry before up to the entry's own
-pub record FitEntry (before : List ℕ) (e : IndexEntry) (rows : List Row) : Type 0 where
+pub record FitEntry (before : List ℕ) (e : BlockEntry) (rows : List Row) : Type 0 where
   pub some : 0 < length rows
   pub each : AllByRecursion IsRow rows
   pub rise : Ascend before rows
@@ -25,14 +25,14 @@ abbrev pub IsBelow : List ℕ → Row → Type 0
 IsBelow key row = key_lt row.key key ≡ true
 
 -- so many first blocks fit the entries, each its own
-abbrev pub FitEntries : List ℕ → List (List Row) → List IndexEntry → Type 0
+abbrev pub FitEntries : List ℕ → List (List Row) → List BlockEntry → Type 0
 FitEntries before [] entries = Unit {0}
 FitEntries before (block ∷ blocks) [] = ⊥
 FitEntries before (block ∷ blocks) (e ∷ es) = FitEntry before e block × FitEntries e.last blocks es
 
 -- the blocks that were read, in order from the first, have rows that ascend when they are joined
 pub record BlocksAscend : Type 0 where
-  pub more : (before : List ℕ) (blocks : List (List Row)) (entries : List IndexEntry) (block : List Row) → FitEntries before blocks entries
+  pub more : (before : List ℕ) (blocks : List (List Row)) (entries : List BlockEntry) (block : List Row) → FitEntries before blocks entries
       → FitCovering (nth_entry before entries (length blocks)) block → FitEntries before (blocks ++ block ∷ []) entries
-  pub each : (before : List ℕ) (blocks : List (List Row)) (entries : List IndexEntry) → FitEntries before blocks entries → AllByRecursion IsRow (rows_of blocks)
-  pub rise : (before : List ℕ) (blocks : List (List Row)) (entries : List IndexEntry) → FitEntries before blocks entries → Ascend before (rows_of blocks)
+  pub each : (before : List ℕ) (blocks : List (List Row)) (entries : List BlockEntry) → FitEntries before blocks entries → AllByRecursion IsRow (rows_of blocks)
+  pub rise : (before : List ℕ) (blocks : List (List Row)) (entries : List BlockEntry) → FitEntries before blocks entries → Ascend before (rows_of blocks)

@@ -8,7 +8,7 @@ use Rattle.keel_base.specs.declared.row.Kind.{Kind}
 use Rattle.keel_base.specs.declared.row.Kind.TheVariants as kinds
 use Rattle.keel_base.specs.Keys.{key_cmp, key_lt}
 use Rattle.keel_fields.specs.Reading.{Read, ◌>>=◌, number_at, bounded_at, bytes_at, sized_at, linked, both, made}
-use Rattle.keel_table.specs.declared.index.IndexEntry.{IndexEntry}
+use Rattle.keel_table.specs.declared.index.BlockEntry.{BlockEntry}
 use Rattle.keel_table.specs.declared.index.Footer.{Footer}
 use Rattle.keel_base.specs.Rows.{most_value}
 
@@ -70,11 +70,11 @@ all_rows_at before last bytes = rows_at (length bytes) before last bytes
 -- ---- the index
 
 -- the entry of a place, a size and a key
-abbrev pub make_entry : (ℕ × ℕ) × List ℕ → IndexEntry
+abbrev pub make_entry : (ℕ × ℕ) × List ℕ → BlockEntry
 make_entry p = record { place = p.0.0; size = p.0.1; last = p.1 }
 
 -- an entry
-unfoldable pub entry_at : List ℕ → Read IndexEntry
+unfoldable pub entry_at : List ℕ → Read BlockEntry
 entry_at bytes = made make_entry (both (both (number_at w64) (number_at w32)) (sized_at (number_at w32))) bytes
 
 -- whether a key is over the one before, where there is one
@@ -83,20 +83,20 @@ is_over None key = true
 is_over (Some before) key = key_lt before key
 
 -- whether an entry is that of a block at this place, up to the index at most, with a key over the one before
-abbrev pub entry_fits : ℕ → ℕ → Option (List ℕ) → IndexEntry → Bool
+abbrev pub entry_fits : ℕ → ℕ → Option (List ℕ) → BlockEntry → Bool
 entry_fits index place before e = (e.place == place) && (nat_le (place + (e.size + 4)) index && is_over before e.last)
 
 -- what an entry's reading gives; anything wrong is found where the entry begins
-abbrev pub fitting_entry : ℕ → ℕ → ℕ → Option (List ℕ) → Read IndexEntry → Read IndexEntry
+abbrev pub fitting_entry : ℕ → ℕ → ℕ → Option (List ℕ) → Read BlockEntry → Read BlockEntry
 fitting_entry left index place before (Err at) = Err left
 fitting_entry left index place before (Ok e) = if entry_fits index place before e.0 then Ok e else Err left
 
 -- an entry of the block at a place
-unfoldable pub next_entry_at : ℕ → ℕ → Option (List ℕ) → List ℕ → Read IndexEntry
+unfoldable pub next_entry_at : ℕ → ℕ → Option (List ℕ) → List ℕ → Read BlockEntry
 next_entry_at index place before bytes = fitting_entry (length bytes) index place before (entry_at bytes)
 
 -- so many entries of blocks that follow each other from a place up to the index, and nothing behind them
-unfoldable pub entries_at : ℕ → ℕ → ℕ → Option (List ℕ) → List ℕ → Result (List IndexEntry) ℕ
+unfoldable pub entries_at : ℕ → ℕ → ℕ → Option (List ℕ) → List ℕ → Result (List BlockEntry) ℕ
 entries_at index zero place before bytes = if (length bytes == 0) && (place == index) then Ok [] else Err (length bytes)
 entries_at index (suc n) place before bytes = do
   e ← next_entry_at index place before bytes
@@ -118,11 +118,11 @@ unfoldable pub footer_at : List ℕ → Read Footer
 footer_at bytes = made make_footer (both (both (both (both (both (number_at w64) (number_at w32)) (number_at w32)) (number_at w64)) (number_at w64)) (number_at w64)) bytes
 
 -- whether entries are those of blocks that follow each other from a place up to the index, with keys that rise
-abbrev pub in_order : ℕ → ℕ → Option (List ℕ) → List IndexEntry → Bool
+abbrev pub in_order : ℕ → ℕ → Option (List ℕ) → List BlockEntry → Bool
 in_order index place before [] = place == index
 in_order index place before (e ∷ es) = entry_fits index place before e && in_order index (place + (e.size + 4)) (Some e.last) es
 
 -- the last key of entries, where there is one
-abbrev pub last_of : Option (List ℕ) → List IndexEntry → Option (List ℕ)
+abbrev pub last_of : Option (List ℕ) → List BlockEntry → Option (List ℕ)
 last_of before [] = before
 last_of before (e ∷ es) = last_of (Some e.last) es

@@ -3,7 +3,7 @@ use Rattle.std.specs.Prelude.{◌≡◌, ◌↔◌, ℕ, ◌+◌, ◌-◌, ◌<�
 use Rattle.std.specs.List.{flat_map, AllByRecursion}
 use Rattle.keel_base.specs.declared.row.Row.{Row}
 use Rattle.keel_disk.specs.Image.{AreBytes}
-use Rattle.keel_table.specs.declared.index.IndexEntry.{IndexEntry}
+use Rattle.keel_table.specs.declared.index.BlockEntry.{BlockEntry}
 use Rattle.keel_table.specs.declared.index.Footer.{Footer}
 use Rattle.keel_base.specs.Rows.{IsRow}
 use Rattle.keel_table.specs.Spelling.{rows_bytes, Ascend, last_key, rows_of, checked, block_bytes, entry_bytes, IsEntry, entries_from, footer_bytes, footer_of, FooterFits, IsTableOf}
@@ -11,7 +11,7 @@ use Rattle.keel_table.specs.Fields.{in_order}
 use Rattle.keel_table.specs.Opening.{part_at, footer_found, entries_found, opened_with, opened, block_found, Covering, covering, row_of, row_found}
 
 -- each entry's block has its check, and these are its rows
-abbrev pub AreWhole : List ℕ → List ℕ → List IndexEntry → List (List Row) → Type 0
+abbrev pub AreWhole : List ℕ → List ℕ → List BlockEntry → List (List Row) → Type 0
 AreWhole bytes before [] [] = Unit {0}
 AreWhole bytes before (e ∷ es) [] = ⊥
 AreWhole bytes before [] (block ∷ blocks) = ⊥
@@ -35,7 +35,7 @@ TablesOpen = (first last : ℕ) (rows : List Row) (bytes : List ℕ) (table : Is
 -- ---- what is spelled
 
 -- the part of a file that an entry tells is these rows with their check, whose keys are over the one before and rise up to the entry's
-pub record IsBlockAt (before : List ℕ) (e : IndexEntry) (bytes : List ℕ) (rows : List Row) : Type 0 where
+pub record IsBlockAt (before : List ℕ) (e : BlockEntry) (bytes : List ℕ) (rows : List Row) : Type 0 where
   pub spelled : part_at e.place (e.size + 4) bytes ≡ block_bytes rows
   pub sized : length (rows_bytes rows) ≡ e.size
   pub some : 0 < length rows
@@ -44,7 +44,7 @@ pub record IsBlockAt (before : List ℕ) (e : IndexEntry) (bytes : List ℕ) (ro
   pub last : last_key before rows ≡ e.last
 
 -- the part of a file that a footer tells is these entries with their check, of blocks that follow each other up to it
-pub record IsIndexAt (f : Footer) (bytes : List ℕ) (entries : List IndexEntry) : Type 0 where
+pub record IsIndexAt (f : Footer) (bytes : List ℕ) (entries : List BlockEntry) : Type 0 where
   pub spelled : part_at f.index (f.size + 4) bytes ≡ checked (flat_map entry_bytes entries)
   pub sized : length (flat_map entry_bytes entries) ≡ f.size
   pub counted : length entries ≡ f.blocks
@@ -59,11 +59,11 @@ pub record IsFooterAt (size : ℕ) (bytes : List ℕ) (f : Footer) : Type 0 wher
 
 -- a block gives the rows that it spells, and no others
 abbrev pub BlocksAreSpelled : Type 0
-BlocksAreSpelled = (before : List ℕ) (e : IndexEntry) (bytes : List ℕ) (rows : List Row) → AreBytes bytes → (block_found before e bytes ≡ Ok rows) ↔ IsBlockAt before e bytes rows
+BlocksAreSpelled = (before : List ℕ) (e : BlockEntry) (bytes : List ℕ) (rows : List Row) → AreBytes bytes → (block_found before e bytes ≡ Ok rows) ↔ IsBlockAt before e bytes rows
 
 -- an index gives the entries that it spells, and no others
 abbrev pub IndexesAreSpelled : Type 0
-IndexesAreSpelled = (f : Footer) (bytes : List ℕ) (entries : List IndexEntry) → AreBytes bytes → (entries_found f bytes ≡ Ok entries) ↔ IsIndexAt f bytes entries
+IndexesAreSpelled = (f : Footer) (bytes : List ℕ) (entries : List BlockEntry) → AreBytes bytes → (entries_found f bytes ≡ Ok entries) ↔ IsIndexAt f bytes entries
 
 -- the last bytes of a file give the footer that they spell, and no other
 abbrev pub FootersAreSpelled : Type 0

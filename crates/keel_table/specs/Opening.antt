@@ -5,7 +5,7 @@ use Rattle.keel_base.specs.declared.row.Row.{Row}
 use Rattle.keel_base.specs.Keys.{key_lt, key_eq}
 use Rattle.keel_frag.specs.Checksum.{crc32c, mask}
 use Rattle.keel_fields.specs.Reading.{Read}
-use Rattle.keel_table.specs.declared.index.IndexEntry.{IndexEntry}
+use Rattle.keel_table.specs.declared.index.BlockEntry.{BlockEntry}
 use Rattle.keel_table.specs.declared.index.Footer.{Footer}
 use Rattle.keel_table.specs.Spelling.{magic}
 use Rattle.keel_table.specs.Fields.{footer_at, entries_at, all_rows_at}
@@ -60,20 +60,20 @@ unfoldable pub footer_found : ℕ → List ℕ → Result Footer Damage
 footer_found size bytes = and_then (checked_at (size - 48) 44 bytes) (λ body. footer_of_size size (footer_at body))
 
 -- the entries in the bytes of the index that the footer tells
-abbrev pub entries_in : Footer → List ℕ → Result (List IndexEntry) Damage
+abbrev pub entries_in : Footer → List ℕ → Result (List BlockEntry) Damage
 entries_in footer index = ending_at (footer.index + footer.size) (entries_at footer.index footer.blocks 0 None index)
 
 -- the entries of the index that the footer tells
-unfoldable pub entries_found : Footer → List ℕ → Result (List IndexEntry) Damage
+unfoldable pub entries_found : Footer → List ℕ → Result (List BlockEntry) Damage
 entries_found footer bytes = and_then (checked_at footer.index footer.size bytes) (entries_in footer)
 
 -- what opening finds
 pub record Opened : Type 0 where
   pub footer : Footer
-  pub entries : List IndexEntry
+  pub entries : List BlockEntry
 
 -- a footer with its entries
-abbrev pub opened_with : Footer → List IndexEntry → Opened
+abbrev pub opened_with : Footer → List BlockEntry → Opened
 opened_with footer entries = record { footer = footer; entries = entries }
 
 -- what opening a table of that size answers for the file's bytes
@@ -84,11 +84,11 @@ opened size bytes =
 -- ---- blocks
 
 -- the rows in the bytes of a block, behind the last key of the entry before
-abbrev pub rows_in : List ℕ → IndexEntry → List ℕ → Result (List Row) Damage
+abbrev pub rows_in : List ℕ → BlockEntry → List ℕ → Result (List Row) Damage
 rows_in before e body = ending_at (e.place + e.size) (all_rows_at before e.last body)
 
 -- the rows of the block of an entry
-unfoldable pub block_found : List ℕ → IndexEntry → List ℕ → Result (List Row) Damage
+unfoldable pub block_found : List ℕ → BlockEntry → List ℕ → Result (List Row) Damage
 block_found before e bytes = and_then (checked_at e.place e.size bytes) (rows_in before e)
 
 -- the row of a key, where there is one
@@ -97,21 +97,21 @@ row_of key rows = find (λ row. key_eq row.key key) rows
 
 -- an entry, with the last key of the one before; at the first it is the empty key, which every key is over
 abbrev pub Covering : Type 0
-Covering = List ℕ × IndexEntry
+Covering = List ℕ × BlockEntry
 
 -- the last key of the last entry, and the key before where there is none
-abbrev pub last_key_of : List ℕ → List IndexEntry → List ℕ
+abbrev pub last_key_of : List ℕ → List BlockEntry → List ℕ
 last_key_of before [] = before
 last_key_of before (e ∷ es) = last_key_of e.last es
 
 -- an entry by its number
-abbrev pub nth_entry : List ℕ → List IndexEntry → ℕ → Option Covering
+abbrev pub nth_entry : List ℕ → List BlockEntry → ℕ → Option Covering
 nth_entry before [] i = None
 nth_entry before (e ∷ es) zero = Some (before, e)
 nth_entry before (e ∷ es) (suc i) = nth_entry e.last es i
 
 -- the first entry whose last key isn't below a key
-abbrev pub covering : List ℕ → List IndexEntry → List ℕ → Option Covering
+abbrev pub covering : List ℕ → List BlockEntry → List ℕ → Option Covering
 covering before [] key = None
 covering before (e ∷ es) key = if key_lt e.last key then covering e.last es key else Some (before, e)
 

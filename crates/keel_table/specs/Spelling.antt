@@ -8,7 +8,7 @@ use Rattle.keel_base.specs.declared.row.Kind.TheVariants as kinds
 use Rattle.keel_base.specs.Keys.{key_lt}
 use Rattle.keel_base.specs.Rows.{IsRow}
 use Rattle.keel_frag.specs.Checksum.{crc32c, mask}
-use Rattle.keel_table.specs.declared.index.IndexEntry.{IndexEntry}
+use Rattle.keel_table.specs.declared.index.BlockEntry.{BlockEntry}
 use Rattle.keel_table.specs.declared.index.Footer.{Footer}
 
 -- a number in eight bytes, the least byte first
@@ -83,21 +83,21 @@ blocks_bytes blocks = flat_map block_bytes blocks
 -- ---- index and footer
 
 -- an entry: where the block begins, the length of its rows, its last key
-abbrev pub entry_bytes : IndexEntry → List ℕ
+abbrev pub entry_bytes : BlockEntry → List ℕ
 entry_bytes e = number e.place ++ (count e.size ++ (count (length e.last) ++ e.last))
 
 -- the numbers of an entry fit their fields
-pub record IsEntry (e : IndexEntry) : Type 0 where
+pub record IsEntry (e : BlockEntry) : Type 0 where
   pub place : e.place < 2 ^ 64
   pub size : e.size < 2 ^ 32
   pub last : length e.last < 2 ^ 32
 
 -- the entry of a block
-abbrev pub entry_of : ℕ → List Row → IndexEntry
+abbrev pub entry_of : ℕ → List Row → BlockEntry
 entry_of place block = record { place = place; size = length (rows_bytes block); last = last_key [] block }
 
 -- the entries of blocks of which the first begins at that place
-abbrev pub entries_from : ℕ → List (List Row) → List IndexEntry
+abbrev pub entries_from : ℕ → List (List Row) → List BlockEntry
 entries_from place [] = []
 entries_from place (block ∷ blocks) = entry_of place block ∷ entries_from (place + (length (rows_bytes block) + 4)) blocks
 

@@ -1,6 +1,6 @@
 -- What a table that is open shows.
 use Rattle.std.specs.Prelude.{ℕ, List}
-use Rattle.keel_table.specs.declared.index.IndexEntry.{IndexEntry}
+use Rattle.keel_table.specs.declared.index.BlockEntry.{BlockEntry}
 use Rattle.keel_table.specs.declared.table.Table.{Table}
 use Rattle.keel_table.specs.Opening.{Opened, opened_with}
 
@@ -9,7 +9,7 @@ abbrev pub shown : Table → Opened
 shown t = opened_with t.footer t.entries
 
 -- the entries of its blocks
-abbrev pub entries_of : Table → List IndexEntry
+abbrev pub entries_of : Table → List BlockEntry
 entries_of t = t.entries
 
 -- the number of its file

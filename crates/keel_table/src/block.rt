@@ -8,7 +8,7 @@ ghost use Rattle.keel_table.specs.Walking.{asked_found, key_asked, row_among};
 
 use crate::TableFault;
 use crate::checking::read_checked;
-use crate::index::IndexEntry;
+use crate::index::BlockEntry;
 use crate::reading::{self, is_same};
 use keel_base::{Row, Rows};
 use keel_disk::Disk;
@@ -20,7 +20,7 @@ fn asked_in(
     alloc: Global,
     asked: Option<&[u8]>,
     before: &[u8],
-    entry: &IndexEntry,
+    entry: &BlockEntry,
     body: &[u8],
 ) -> Result<Rows, TableFault>
     ensures found { Finds (λ rows. rows) result (asked_found (key_asked asked.entry) (spec.rows_in before.now entry.now body.now)) }
@@ -43,7 +43,7 @@ fn asked_in(
 pub(crate) fn rows_in(
     alloc: Global,
     before: &[u8],
-    entry: &IndexEntry,
+    entry: &BlockEntry,
     body: &[u8],
 ) -> Result<Rows, TableFault>
     ensures found { Finds (λ rows. rows) result (spec.rows_in before.now entry.now body.now) }
@@ -58,7 +58,7 @@ fn row_in(
     alloc: Global,
     key: &[u8],
     before: &[u8],
-    entry: &IndexEntry,
+    entry: &BlockEntry,
     body: &[u8],
 ) -> Result<Option<Row>, TableFault>
     ensures found { Finds (λ row. row) result (row_among key.now (spec.rows_in before.now entry.now body.now)) }
@@ -76,7 +76,7 @@ pub(crate) fn read_block<D: Disk>(
     disk: &mut D,
     number: u64,
     before: &[u8],
-    entry: &IndexEntry,
+    entry: &BlockEntry,
 ) -> Result<Rows, TableFault>
     ensures answer { Answers (λ rows. rows) (spec.block_found before.now entry.now) number (D.seen disk.old).told result }
     ensures fit { IfOk result (FitEntry before.now entry.now) }
@@ -96,7 +96,7 @@ pub(crate) fn read_row<D: Disk>(
     number: u64,
     key: &[u8],
     before: &[u8],
-    entry: &IndexEntry,
+    entry: &BlockEntry,
 ) -> Result<Option<Row>, TableFault>
     ensures answer { Answers (λ row. row) (λ bytes. row_among key.now (spec.block_found before.now entry.now bytes)) number (D.seen disk.old).told result }
     ensures differ { ChecksDiffer result }

@@ -7,7 +7,7 @@ ghost use Rattle.keel_table.specs.Opening as spec;
 use crate::TableFault;
 use crate::block::rows_in;
 use crate::checking::tested;
-use crate::index::{Footer, IndexEntries, IndexEntry};
+use crate::index::{BlockEntries, BlockEntry, Footer};
 use crate::opening::{LEAST_SIZE, entries_in, footer_of_size};
 use keel_base::{Bytes, Rows};
 use std::alloc::Global;
@@ -39,7 +39,7 @@ fn checked_at(alloc: Global, bytes: &[u8], place: u64, size: u32) -> Result<Byte
 /// The footer and the entries of the table that the bytes are, or what is wrong with them first: what `open_table`
 /// answers over a file with these bytes.
 #[tactic(auto, unfolding(crate::specs::Opening::opened, crate::specs::Opening::footer_found, crate::specs::Opening::entries_found))]
-pub fn open_bytes(alloc: Global, bytes: &[u8]) -> Result<(Footer, IndexEntries), TableFault>
+pub fn open_bytes(alloc: Global, bytes: &[u8]) -> Result<(Footer, BlockEntries), TableFault>
     ensures answer { Finds (λ t. spec.opened_with t.0 t.1) result (spec.opened (length bytes.now) bytes.now) }
     ensures differ { ChecksDiffer result }
 {
@@ -61,7 +61,7 @@ pub fn block_in(
     alloc: Global,
     bytes: &[u8],
     before: &[u8],
-    entry: &IndexEntry,
+    entry: &BlockEntry,
 ) -> Result<Rows, TableFault>
     ensures answer { Finds (λ rows. rows) result (spec.block_found before.now entry.now bytes.now) }
     ensures fit { IfOk result (FitEntry before.now entry.now) }

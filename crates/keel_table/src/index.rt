@@ -3,7 +3,7 @@ use keel_base::{Bytes, Sequence};
 
 /// What the index tells of a block.
 #[derive(Debug, Drop)]
-pub struct IndexEntry {
+pub struct BlockEntry {
     /// Where it begins in the file.
     pub place: u64,
     /// The bytes of its rows.
@@ -13,7 +13,7 @@ pub struct IndexEntry {
 }
 
 /// The entries of a table's blocks, in their order.
-pub type IndexEntries = Sequence<IndexEntry>;
+pub type BlockEntries = Sequence<BlockEntry>;
 
 /// What the last bytes of a table tell.
 #[derive(Clone, Copy, Debug)]

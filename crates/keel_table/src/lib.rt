@@ -49,7 +49,7 @@ mod view;
 pub use builder::{Builder, FinishRefused, Pieces};
 pub use fault::TableFault;
 pub use in_memory::{block_in, open_bytes};
-pub use index::{Footer, IndexEntries, IndexEntry};
+pub use index::{BlockEntries, BlockEntry, Footer};
 pub use opening::open_table;
 pub use table::Table;
 

@@ -7,7 +7,7 @@ ghost use Rattle.keel_table.specs.Opening as spec;
 ghost use Rattle.keel_table.specs.Tables.{number_of, shown};
 
 use crate::checking::read_checked;
-use crate::index::{Footer, IndexEntries};
+use crate::index::{BlockEntries, Footer};
 use crate::reading::{self, is_same};
 use crate::spelling::MAGIC;
 use crate::{Table, TableFault};
@@ -73,7 +73,7 @@ pub(crate) fn entries_in(
     alloc: Global,
     footer: Footer,
     index: &[u8],
-) -> Result<IndexEntries, TableFault>
+) -> Result<BlockEntries, TableFault>
     requires { footer.index + footer.size < 2 ^ 64 }
     ensures found { Finds (λ entries. entries) result (spec.entries_in footer index.now) }
     ensures order { IfOk result (λ entries. in_order footer.index 0 None entries ≡ true) }
@@ -96,7 +96,7 @@ fn read_entries<D: Disk>(
     disk: &mut D,
     number: u64,
     footer: Footer,
-) -> Result<IndexEntries, TableFault>
+) -> Result<BlockEntries, TableFault>
     requires { footer.index + footer.size < 2 ^ 64 }
     ensures answer { Answers (λ entries. entries) (spec.entries_found footer) number (D.seen disk.old).told result }
     ensures order { IfOk result (λ entries. in_order footer.index 0 None entries ≡ true) }

@@ -6,7 +6,7 @@ ghost use Rattle.keel_table.specs.Fields as spec;
 ghost use Rattle.keel_table.specs.Walking.{asked_rows, is_asked, key_asked, row_shown};
 ghost use Rattle.keel_base.specs.Rows.{most_value};
 
-use crate::index::{Footer, IndexEntries, IndexEntry};
+use crate::index::{BlockEntries, BlockEntry, Footer};
 use crate::view::RowView;
 use keel_base::{Bytes, Kind, OutOfMemory, Rows};
 use keel_fields::{FieldError, bytes_at, u32_at, u32_between, u64_at};
@@ -181,7 +181,7 @@ pub(crate) fn rows_at(
 }
 
 #[tactic(auto, unfolding(crate::specs::Fields::entry_at))]
-fn entry_at(alloc: Global, bytes: &[u8]) -> Result<(IndexEntry, &[u8]), FieldError>
+fn entry_at(alloc: Global, bytes: &[u8]) -> Result<(BlockEntry, &[u8]), FieldError>
     ensures { Gives (λ x. (x.0, x.1.now)) result (spec.entry_at bytes.now) }
 {
     let (place, rest) = u64_at(bytes)?;
@@ -189,11 +189,11 @@ fn entry_at(alloc: Global, bytes: &[u8]) -> Result<(IndexEntry, &[u8]), FieldErr
     let (length, rest) = u32_at(rest)?;
     let (last, rest) = bytes_at(rest, length as usize)?;
     let last = Bytes::from_slice(alloc, last)?;
-    Ok((IndexEntry { place, size, last }, rest))
+    Ok((BlockEntry { place, size, last }, rest))
 }
 
 /// Whether a key is over those of the entries before.
-fn is_over(entries: &[IndexEntry], key: &[u8]) -> bool
+fn is_over(entries: &[BlockEntry], key: &[u8]) -> bool
     ensures { result ≡ spec.is_over (spec.last_of None entries.now) key.now }
 {
     match entries.last() {
@@ -210,7 +210,7 @@ fn ends_by(index: u64, place: u64, size: u32) -> bool
 }
 
 /// Whether an entry is that of the next block, which begins at that place and ends before the index.
-fn entry_fits(index: u64, place: u64, entries: &[IndexEntry], entry: &IndexEntry) -> bool
+fn entry_fits(index: u64, place: u64, entries: &[BlockEntry], entry: &BlockEntry) -> bool
     ensures { result ≡ spec.entry_fits index place (spec.last_of None entries.now) entry.now }
 {
     if entry.place != place {
@@ -227,9 +227,9 @@ fn next_entry_at<'a>(
     alloc: Global,
     index: u64,
     place: u64,
-    entries: &[IndexEntry],
+    entries: &[BlockEntry],
     bytes: &'a [u8],
-) -> Result<(IndexEntry, &'a [u8]), FieldError>
+) -> Result<(BlockEntry, &'a [u8]), FieldError>
     ensures entry { Gives (λ x. (x.0, x.1.now)) result (spec.next_entry_at index place (spec.last_of None entries.now) bytes.now) }
     ensures within { IfOk result (λ x. place + (x.0.size + 4) ≤ index) }
 {
@@ -259,10 +259,10 @@ pub(crate) fn entries_at(
     index: u64,
     blocks: u32,
     bytes: &[u8],
-) -> Result<IndexEntries, FieldError>
+) -> Result<BlockEntries, FieldError>
     ensures { Gives (λ entries. entries) result (spec.entries_at index blocks 0 None bytes.now) }
 {
-    let mut entries = IndexEntries::new(alloc);
+    let mut entries = BlockEntries::new(alloc);
     let mut place = 0;
     let mut rest = bytes;
     for _ in 0..blocks {

@@ -3,7 +3,7 @@ ghost use Rattle.std.specs.Prelude.{◌≡◌, ◌<◌, ◌≤◌, ◌^◌, ◌+
 ghost use Rattle.keel_base.specs.Rows.{IsRow};
 ghost use Rattle.keel_table.specs.Spelling as spec;
 
-use crate::index::{Footer, IndexEntry};
+use crate::index::{BlockEntry, Footer};
 use keel_base::{Bytes, Kind, OutOfMemory, Row};
 use keel_frag::{crc32c, mask};
 use std::alloc::Global;

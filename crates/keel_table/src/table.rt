@@ -4,7 +4,7 @@ ghost use Rattle.std.specs.List.{AllByRecursion};
 ghost use Rattle.keel_base.specs.declared.row.Row.{Row as ARow};
 ghost use Rattle.keel_base.specs.Keys.{key_lt};
 ghost use Rattle.keel_disk.specs.Seen.{IsQuiet};
-ghost use Rattle.keel_table.specs.declared.index.IndexEntry.{IndexEntry as AnEntry};
+ghost use Rattle.keel_table.specs.declared.index.BlockEntry.{BlockEntry as AnEntry};
 ghost use Rattle.keel_table.specs.Answers.{Answers, BlockAnswers, ChecksDiffer, GetAnswers, fault_in};
 ghost use Rattle.keel_table.specs.Blocks.{FitCovering, FitEntries, IsBelow};
 ghost use Rattle.keel_table.specs.Fields.{in_order};
@@ -13,7 +13,7 @@ ghost use Rattle.keel_table.specs.Spelling.{rows_of};
 
 use crate::TableFault;
 use crate::block::{read_block, read_row};
-use crate::index::{Footer, IndexEntries, IndexEntry};
+use crate::index::{BlockEntries, BlockEntry, Footer};
 use crate::reading::is_below;
 use keel_base::{Row, Rows};
 use keel_disk::Disk;
@@ -24,13 +24,13 @@ use std::alloc::Global;
 pub struct Table {
     pub(crate) number: u64,
     pub(crate) footer: Footer,
-    pub(crate) entries: IndexEntries,
+    pub(crate) entries: BlockEntries,
     ghost order: { in_order footer.index 0 None entries ≡ true },
     ghost counted: { length entries ≡ footer.blocks },
 }
 
 /// The last key of the last entry, and the empty key where there is none.
-fn last_key_of(entries: &[IndexEntry]) -> &[u8]
+fn last_key_of(entries: &[BlockEntry]) -> &[u8]
     ensures { result.now ≡ last_key_of [] entries.now }
 {
     match entries.last() {
@@ -40,7 +40,7 @@ fn last_key_of(entries: &[IndexEntry]) -> &[u8]
 }
 
 /// How many entries have a last key below a key, where the last keys rise.
-fn count_below(entries: &[IndexEntry], key: &[u8], index: u64) -> usize
+fn count_below(entries: &[BlockEntry], key: &[u8], index: u64) -> usize
     requires { in_order index 0 None entries.now ≡ true }
     ensures bound { result ≤ length entries.now }
     ensures below { (k : ℕ) (e : AnEntry) → k < result → Some e ≡ slice_get entries.now k → key_lt e.last key.now ≡ true }

@@ -9,7 +9,7 @@ use Rattle.keel_base.specs.Keys.{key_le}
 use Rattle.keel_edit.specs.declared.edit.Added.{Added}
 use Rattle.keel_edit.specs.declared.edit.Removed.{Removed}
 use Rattle.keel_edit.specs.declared.edit.Edit.{Edit}
-use Rattle.keel_version.specs.Tables.{is_before, meet, clash, goes_before, are_apart, have_levels, IsSound}
+use Rattle.keel_version.specs.Tables.{is_before, meet, clash, goes_before, are_apart, have_levels, AreLevels}
 use Rattle.keel_edit.specs.Spelling.{IsRemoved, IsAdded}
 use Rattle.keel_version.specs.Applying.{HasLevels, EditsHaveLevels, is_named, without, take_off, put_on, or_entry, each_fits}
 
@@ -195,7 +195,7 @@ each_keeps P change Fit keeps entry (e ∷ es) tables after fit is h =
 
 -- ---- an edit
 
-pub stand : (edit : Edit) (tables left after : List Added) → HasLevels edit → IsSound tables
+pub stand : (edit : Edit) (tables left after : List Added) → HasLevels edit → AreLevels tables
     → each_fits take_off 0 edit.removed tables ≡ Ok left → each_fits put_on (length edit.removed) edit.added left ≡ Ok after → Stand after
 stand edit tables left after levels sound goes comes =
     let before : Stand tables = record { apart = sound.apart; levels = sound.levels } in
@@ -203,9 +203,9 @@ stand edit tables left after levels sound goes comes =
     each_keeps Stand put_on (λ (a : Added). a.level ≤ 3) put_on_keeps (length edit.removed) edit.added left after levels.added comes between
 
 -- the same of an edit's lists as the code has them
-pub sound : (edit : Edit) (tables left after : List Added) (going : List Removed) (coming : List Added) (first : ℕ) → HasLevels edit → IsSound tables
+pub sound : (edit : Edit) (tables left after : List Added) (going : List Removed) (coming : List Added) (first : ℕ) → HasLevels edit → AreLevels tables
     → going ≡ edit.removed → coming ≡ edit.added → first ≡ length going
-    → each_fits take_off 0 going tables ≡ Ok left → each_fits put_on first coming left ≡ Ok after → length after < 2 ^ 32 → IsSound after
+    → each_fits take_off 0 going tables ≡ Ok left → each_fits put_on first coming left ≡ Ok after → length after < 2 ^ 32 → AreLevels after
 sound edit tables left after going coming first levels before goes comes count takes puts few =
     let taken : each_fits take_off 0 edit.removed tables ≡ Ok left = rw (← goes) takes in
     let counted : first ≡ length edit.removed = count ∙ ap length goes in

@@ -5,7 +5,7 @@ use Rattle.keel_edit.specs.declared.edit.Added.{Added}
 use Rattle.keel_edit.specs.declared.edit.Edit.{Edit}
 use Rattle.keel_base.specs.Name.{IsFileNumber}
 use Rattle.keel_edit.specs.Spelling.{IsAdded, IsEdit}
-use Rattle.keel_version.specs.Tables.{Contents, nothing, IsSound, IsWithin}
+use Rattle.keel_version.specs.Tables.{Contents, nothing, AreLevels, IsWithin}
 use Rattle.keel_version.specs.Applying.{HasLevels, is_named, applied}
 use Rattle.keel_version.specs.Picking.{on_level}
 
@@ -24,13 +24,13 @@ pub record Leaves (edit : Edit) (before after : List Added) : Type 0 where
 abbrev pub AppliedLeaves : Type 0
 AppliedLeaves =
     (edit : Edit) (before after : Contents)
-    → HasLevels edit → IsSound before.tables → applied edit before ≡ Ok after → Leaves edit before.tables after.tables
+    → HasLevels edit → AreLevels before.tables → applied edit before ≡ Ok after → Leaves edit before.tables after.tables
 
 -- an edit in which all tables of a version come makes that version of nothing
 abbrev pub WholeEdit : Type 0
 WholeEdit =
     (edit : Edit) (tables : List Added)
-    → IsSound tables → edit.removed ≡ [] → edit.added ≡ tables
+    → AreLevels tables → edit.removed ≡ [] → edit.added ≡ tables
     → applied edit nothing ≡ Ok (record { tables = tables; min_log = edit.min_log; next_file = edit.next_file; last_seq = edit.last_seq })
 
 -- what stands behind an edit may come in an edit
@@ -50,10 +50,10 @@ whole v = record { min_log = v.min_log; next_file = v.next_file; last_seq = v.la
 
 -- a manifest may hold it, so that it is read back
 abbrev pub WholeIsEdit : Type 0
-WholeIsEdit = (contents : Contents) → IsSound contents.tables → MayCome contents → IsEdit (whole contents)
+WholeIsEdit = (contents : Contents) → AreLevels contents.tables → MayCome contents → IsEdit (whole contents)
 
 -- the first table of a level has the least number
 abbrev pub FirstIsLeast : Type 0
 FirstIsLeast =
     (level : ℕ) (tables : List Added) (first : Added) (others : List Added)
-    → IsSound tables → on_level level tables ≡ first ∷ others → list_all (λ table. nat_lt first.number table.number) others ≡ true
+    → AreLevels tables → on_level level tables ≡ first ∷ others → list_all (λ table. nat_lt first.number table.number) others ≡ true

@@ -42,7 +42,7 @@ abbrev pub have_levels : List Added → Bool
 have_levels tables = list_all (λ table. nat_le table.level 3) tables
 
 -- the tables are in order, no two have one number, ranges on the levels 1 to 3 don't meet, and they can be counted
-pub record IsSound (tables : List Added) : Type 0 where
+pub record AreLevels (tables : List Added) : Type 0 where
   pub apart : are_apart tables ≡ true
   pub levels : have_levels tables ≡ true
   pub few : length tables < 2 ^ 32

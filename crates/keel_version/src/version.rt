@@ -3,7 +3,7 @@ ghost use Rattle.std.specs.Prelude.{◌≡◌, ◌^◌, ◌<◌, length, IfOk};
 ghost use Rattle.keel_edit.specs.Spelling.{IsEdit};
 ghost use Rattle.keel_version.specs.Applying.{Gives, applied};
 ghost use Rattle.keel_version.specs.Picking.{Picks, on_level, bytes_of};
-ghost use Rattle.keel_version.specs.Tables.{IsSound, IsWithin, nothing};
+ghost use Rattle.keel_version.specs.Tables.{AreLevels, IsWithin, nothing};
 ghost use Rattle.keel_version.specs.Behind.{MayCome};
 
 use crate::ApplyError;
@@ -25,7 +25,7 @@ pub struct Version {
 }
 
 impl Model for Version {
-    ghost use Rattle.keel_version.specs.Tables.{Contents, IsSound, IsWithin};
+    ghost use Rattle.keel_version.specs.Tables.{Contents, AreLevels, IsWithin};
 
     ghost Value = { Contents };
 
@@ -36,7 +36,7 @@ impl Model for Version {
       last_seq = v.last_seq;
     } };
 
-    ghost invariant = { λ v. IsSound v.tables.items × IsWithin (record { tables = v.tables.items; min_log = v.min_log; next_file = v.next_file; last_seq = v.last_seq }) };
+    ghost invariant = { λ v. AreLevels v.tables.items × IsWithin (record { tables = v.tables.items; min_log = v.min_log; next_file = v.next_file; last_seq = v.last_seq }) };
 }
 
 impl Version {
@@ -60,7 +60,7 @@ impl Version {
         requires { IsEdit edit.now }
         ensures exact { Gives (λ after. after) result (applied edit.now self.now) }
         // The tables are in order, of different numbers, and apart on each of the levels 1 to 3.
-        ensures sound { IfOk result (λ after. IsSound after.tables) }
+        ensures sound { IfOk result (λ after. AreLevels after.tables) }
         ensures may_come { IfOk result MayCome }
     {
         let copy = Version {
@@ -77,7 +77,7 @@ impl Version {
     pub fn into_applied(self, alloc: Global, edit: &Edit) -> Result<Version, ApplyError>
         requires { IsEdit edit.now }
         ensures exact { Gives (λ after. after) result (applied edit.now self) }
-        ensures sound { IfOk result (λ after. IsSound after.tables) }
+        ensures sound { IfOk result (λ after. AreLevels after.tables) }
         ensures may_come { IfOk result MayCome }
     {
         let removed = edit.removed.as_slice();
@@ -106,7 +106,7 @@ impl Version {
     /// levels 1 to 3; and what stands here is within the bounds of a manifest.
     pub fn as_slice(&self) -> &[Added]
         ensures all { result.now ≡ self.now.tables }
-        ensures sound { IsSound self.now.tables }
+        ensures sound { AreLevels self.now.tables }
         ensures within { IsWithin self.now }
     {
         self.tables.as_slice()
@@ -115,7 +115,7 @@ impl Version {
     /// A copy of the tables, in the same order.
     pub fn tables(&self, alloc: Global) -> Result<AddedList, OutOfMemory>
         ensures all { IfOk result (λ tables. tables ≡ self.now.tables) }
-        ensures sound { IsSound self.now.tables }
+        ensures sound { AreLevels self.now.tables }
     {
         Ok(AddedList::from_vec(copies_of(alloc, self.tables.as_slice())?))
     }
