@@ -2,7 +2,9 @@
 //!
 //! - `Sequence`, and under names of their own `Bytes`, `Ops`, `Batches`, `Listing`: lists on the heap.
 //! - `ReservedList`: a list whose room is taken first, so that adding to it can't fail.
-//! - `Op` and `Batch`: changes of the map, with the limits of their sizes and their weight.
+//! - `Op` and `Batch`: changes of the map, and what they weigh.
+//! - `LONGEST_KEY`, `LONGEST_VALUE`, `MOST_OPS`, `GREATEST_WEIGHT`, `LAST_NUMBER`: the bounds of what a store takes and
+//!   numbers.
 //! - `Row` and `Kind`: what a change leaves of a key; of a key's rows the newest counts.
 //! - `FileName`, `Fault`, `Reason`, `Failure`, `Grade`, `Call`: the words in which layers speak of the device.
 //! - `Options` with their ranges.
@@ -17,6 +19,7 @@ mod bytes;
 mod failure;
 mod file_name;
 mod in_memory;
+mod limits;
 mod listing;
 mod memory;
 mod op;
@@ -32,6 +35,7 @@ pub use bytes::Bytes;
 pub use failure::{Call, Counter, Failed, Failure, Fault, Grade, Reason, SlotName};
 pub use file_name::{FileName, same_name};
 pub use in_memory::{Calls, MemSink, MemSource, PlainSink, PlainSource};
+pub use limits::{GREATEST_WEIGHT, LAST_NUMBER, LONGEST_KEY, LONGEST_VALUE, MOST_OPS};
 pub use listing::{Entry, Listing};
 pub use memory::OutOfMemory;
 pub use op::{Batch, Batches, Op, Ops, ops_weight, weight};

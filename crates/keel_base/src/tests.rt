@@ -1,7 +1,7 @@
 use crate::{
-    Bytes, Calls, Failed, FileName, Kind, MemSink, MemSource, Op, Ops, Options, OutOfMemory,
-    PlainSink, PlainSource, ReservedList, Row, Rows, Sink, Source, TakeEnd, give_all, ops_weight,
-    same_name, take_all, weight,
+    Bytes, Calls, Failed, FileName, Kind, LONGEST_KEY, LONGEST_VALUE, MemSink, MemSource, Op, Ops,
+    Options, OutOfMemory, PlainSink, PlainSource, ReservedList, Row, Rows, Sink, Source, TakeEnd,
+    give_all, ops_weight, same_name, take_all, weight,
 };
 use std::alloc::Global;
 use std::test::Fail;
@@ -80,9 +80,11 @@ fn lists_names_and_weights(rt: HostRuntime) -> Result<(), Fail> {
 /// The weight of an op whose sizes are within the limits, and 0 of another.
 fn weighed(op: &Op) -> u64 {
     match op {
-        Op::Put { key, value } if key.len() > 0 && key.len() <= 1024 && value.len() <= 65536 =>
-            weight(op),
-        Op::Del { key } if key.len() > 0 && key.len() <= 1024 => weight(op),
+        Op::Put { key, value }
+            if key.len() > 0 && key.len() <= LONGEST_KEY && value.len() <= LONGEST_VALUE => weight(
+            op,
+        ),
+        Op::Del { key } if key.len() > 0 && key.len() <= LONGEST_KEY => weight(op),
         _ => 0,
     }
 }
