@@ -7,7 +7,7 @@
 //!   numbers.
 //! - `Row` and `Kind`: what a change leaves of a key; of a key's rows the newest counts.
 //! - `FileName`, `Fault`, `Reason`, `Failure`, `Grade`, `Call`: the words in which layers speak of the device.
-//! - `Options` with their ranges.
+//! - `Options`, and `OptionName` with each option's name, range and value where none was set.
 //! - `Source` and `Sink`: where input comes from and output goes, in memory and over the standard streams.
 //!
 //! A refusal for want of memory is always a value of its own, `OutOfMemory`, and leaves things as they were.
@@ -23,6 +23,7 @@ mod limits;
 mod listing;
 mod memory;
 mod op;
+mod option_name;
 mod options;
 mod reserved;
 mod row;
@@ -39,6 +40,7 @@ pub use limits::{GREATEST_WEIGHT, LAST_NUMBER, LONGEST_KEY, LONGEST_VALUE, MOST_
 pub use listing::{Entry, Listing};
 pub use memory::OutOfMemory;
 pub use op::{Batch, Batches, Op, Ops, ops_weight, weight};
+pub use option_name::{OptionName, Range};
 pub use options::Options;
 pub use reserved::ReservedList;
 pub use row::{Kind, Row, RowLists, Rows};
