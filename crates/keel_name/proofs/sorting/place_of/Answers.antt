@@ -4,8 +4,8 @@ use Rattle.std.proofs.lemmas.List.{take_all}
 use Rattle.std.proofs.lemmas.List.Elements.{All-more}
 use Rattle.std.proofs.lemmas.Option.{slice_get_past, slice_get_read}
 use Rattle.keel_base.specs.Keys.{key_lt}
-use Rattle.keel_dirdisk.specs.declared.spelled.Spelled.{Spelled}
-use Rattle.keel_dirdisk.proofs.listing.place_of.Goals as goal
+use Rattle.keel_name.specs.declared.spelled.Spelled.{Spelled}
+use Rattle.keel_name.proofs.sorting.place_of.Goals as goal
 
 pub loop-place-preserved : goal.loop-place-preserved
 loop-place-preserved c =
