@@ -1,5 +1,6 @@
 pub mod Counts
 pub mod Keys
+pub mod Listings
 pub mod Name
 pub mod Options
 pub mod Points

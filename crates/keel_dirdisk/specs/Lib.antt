@@ -1,6 +1,5 @@
 pub mod Answers
 pub mod Spending
-pub mod Sorting
 pub mod Shown
 pub mod Opened
 pub mod Taking

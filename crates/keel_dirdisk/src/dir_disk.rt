@@ -16,11 +16,12 @@ ghost use Rattle.keel_dirdisk.specs.Spending.{uncounted, counting, IsCount, Spen
 
 use crate::budget::Budget;
 use crate::folder::Folder;
-use crate::listing::{listed, total};
+use crate::listing::total;
 use crate::stop::{Stop, answer_of};
 use crate::tally::Tally;
 use keel_base::{Bytes, Fault, FileName, Listing, OutOfMemory};
 use keel_disk::{Device, Disk, DiskError, Pick, ReadError, Rule};
+use keel_name::listed;
 use std::alloc::Global;
 use std::fs::File;
 use std::rt::Files;
@@ -123,7 +124,7 @@ impl<'a, R: Files<File = File> + AllocGlobal> DirDisk<'a, R> {
         ensures tally { self.new.tally ≡ self.old.tally }
     {
         let files = self.folder.files(alloc)?;
-        Ok(listed(alloc, files)?)
+        Ok(listed(alloc, &files)?)
     }
 
     // What the budget leaves, and not what the host has.

@@ -2,15 +2,14 @@
 ghost use Rattle.std.specs.Prelude.{◌≡◌, ℕ, ◌<◌, ◌≤◌, ◌++◌, ◌∷◌, true, false, length, All, filter, OnOk, OnErr, IfOk, IfSome, IsSome, IsSomeAnd, slice_get, string_bytes, vec_len};
 ghost use Rattle.keel_base.specs.Name.{printed};
 ghost use Rattle.keel_dirdisk.specs.Opened.{IsOpen, IsSynced, is_unsettled, renamed, without};
-ghost use Rattle.keel_dirdisk.specs.Sorting.{AreNames};
+ghost use Rattle.keel_name.specs.Sorting.{AreNames};
 ghost use Rattle.keel_dirdisk.specs.Taking.{TakesFirst};
 
 use crate::held::HeldFiles;
 use crate::host::{lock_at, make_at, open_at, remove_at, rename_at, size_at};
 use crate::listing::files_in;
-use crate::spelled::Spelled;
 use crate::stop::Stop;
-use keel_base::{Bytes, FileName};
+use keel_base::{Bytes, Entry, FileName};
 use keel_name::print;
 use std::alloc::Global;
 use std::fs::{File, OpenFile};
@@ -267,7 +266,7 @@ impl<'a, R: Files<File = File> + AllocGlobal> Folder<'a, R> {
     }
 
     /// The store's files.
-    pub fn files(&mut self, alloc: Global) -> Result<Vec<Spelled>, Stop>
+    pub fn files(&mut self, alloc: Global) -> Result<Vec<Entry>, Stop>
         ensures names { IfOk result (λ files. AreNames files.items) }
         ensures locked { OnOk result (IsSome self.new.own) }
         ensures held { self.new.held ≡ self.old.held }

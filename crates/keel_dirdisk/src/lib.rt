@@ -54,7 +54,6 @@ mod folder;
 mod held;
 mod host;
 mod listing;
-mod spelled;
 mod stop;
 mod tally;
 

@@ -1,3 +1,4 @@
+mod Ascending
 pub mod Currents
 pub mod Decimals
 pub mod Listings

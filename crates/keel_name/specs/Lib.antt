@@ -1,3 +1,4 @@
 pub mod Current
 pub mod Decimal
 pub mod Laws
+pub mod Sorting

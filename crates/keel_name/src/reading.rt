@@ -4,7 +4,7 @@ ghost use Rattle.keel_base.specs.declared.file_name.FileName.{FileName};
 ghost use Rattle.keel_base.specs.Name.{IsFileNumber, IsName, numeral, printed};
 
 use crate::decimal::read_padded;
-use keel_base::FileName;
+use keel_base::{FileName, LAST_NUMBER};
 
 /// The name with this spelling. `None` comes exactly where no name of a file of a store has it.
 #[tactic(auto, unfolding(keel_base::specs::Name::printed))]
@@ -49,7 +49,7 @@ fn file_number(digits: &[u8]) -> Option<u64>
     ensures none { IfNone result ((number : ℕ) → IsFileNumber number → digits.now ≢ numeral number) }
 {
     match read_padded(digits, 6) {
-        Some(number) if 1 <= number && number <= 1 << 56 => Some(number),
+        Some(number) if 1 <= number && number <= LAST_NUMBER => Some(number),
         _ => None,
     }
 }

@@ -3,5 +3,5 @@ pub mod Deciding
 pub mod Keeping
 pub mod Leaving
 pub mod Meeting
-pub mod Sorting
+pub mod Sizes
 pub mod Waiting

@@ -27,7 +27,6 @@ mod names;
 mod noted;
 mod rules;
 mod sim_disk;
-mod spelled;
 mod tree;
 
 pub use sim_disk::SimDisk;

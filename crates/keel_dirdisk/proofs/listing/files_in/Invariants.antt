@@ -1,4 +1,4 @@
-use Rattle.keel_dirdisk.specs.Sorting.{AreNames}
+use Rattle.keel_name.specs.Sorting.{AreNames}
 use Rattle.keel_dirdisk.proofs.listing.files_in.Given as goal
 
 abbrev pub invariant-loop-entry : goal.invariant-loop-entry

@@ -1,21 +1,14 @@
-use Rattle.std.proofs.Common.{◌≡◌, ℕ, ◌≤◌, List, take, map, length, sym, ◌∙◌, ap, subst, take_all}
+use Rattle.std.proofs.Common.{List, sym, ◌∙◌, length, subst}
 use Rattle.keel_base.specs.declared.listing.Entry.{Entry}
-use Rattle.keel_simdisk.specs.declared.spelled.Spelled.{Spelled}
-use Rattle.keel_simdisk.specs.Listings.{GivesSizes, entry_of}
-use Rattle.keel_simdisk.proofs.Sorting.{listing_of}
+use Rattle.keel_name.specs.Sorting.{AreNames}
+use Rattle.keel_simdisk.proofs.Sizes.{entries_named, listed_sized}
 use Rattle.keel_simdisk.proofs.listing.listed.Goals as goal
 
--- all are taken over
-whole : (xs ys : List Spelled) (i : ℕ) (listing : List Entry) → length xs ≤ i → xs ≡ ys → listing ≡ map entry_of (take i xs) → listing ≡ map entry_of ys
-whole xs ys i listing all same is = is ∙ ap (map entry_of) (take_all i xs all ∙ same)
+pub listed-requires : goal.listed-requires
+listed-requires c =
+    subst (λ (entries : List Entry). AreNames entries) (sym (c.deref.ensures.value ∙ c.in_ok-entries.ensures))
+    (entries_named (length c.args.files.now) c.args.files.now c.args.names.now c.requires)
 
 pub returns-clause-sizes : goal.returns-clause-sizes
 returns-clause-sizes c =
-    let is = whole c.deref-spelled-items.result.now c.in_ok-sorted.sorted.items c.loop-spelled.spelled-index c.loop-spelled.listing c.loop-spelled-test.false c.deref-spelled-items.ensures.value c.loop-spelled.invariant in
-    subst (λ (listing : List Entry). GivesSizes c.args.files.now c.args.names.now listing) (sym is) c.in_ok-sorted.ensures.sizes
-
-pub returns-clause-order : goal.returns-clause-order
-returns-clause-order c =
-    listing_of c.in_ok-sorted.sorted.items c.loop-spelled.listing
-    (whole c.deref-spelled-items.result.now c.in_ok-sorted.sorted.items c.loop-spelled.spelled-index c.loop-spelled.listing c.loop-spelled-test.false c.deref-spelled-items.ensures.value c.loop-spelled.invariant)
-    c.in_ok-sorted.ensures.order
+    listed_sized c.args.files.now c.args.names.now c.in_ok-entries.entries.items c.deref.result.now c.listed.result c.in_ok-entries.ensures c.deref.ensures.value c.listed.ensures.sizes

@@ -1,7 +1,0 @@
-use Rattle.keel_dirdisk.proofs.Ascending.{sorted_more}
-use Rattle.keel_dirdisk.proofs.listing.insert_spelled.Goals as goal
-
-pub returns : goal.returns
-returns c =
-    sorted_more c.args.sorted.now.items c.deref.result.now c.deref-2.result.now c.insert.new.self.items c.as_slice.result.now c.place_of-place.result c.args.spelled c.is_at.result
-    c.requires.sorted c.requires.named c.deref.ensures.value c.deref-2.ensures.value c.as_slice.ensures c.place_of-place.ensures c.is_at.ensures c.if-is_at.false c.in_ok-insert.ensures.items
