@@ -6,12 +6,9 @@ ghost use Rattle.keel_batch.specs.Spelling.{IsBatch, spelling};
 ghost use Rattle.keel_batch.specs.Reading as spec;
 
 use crate::batch::{BatchError, Numbered};
-use keel_base::{Bytes, Op, Ops};
+use keel_base::{Bytes, LAST_NUMBER, LONGEST_KEY, LONGEST_VALUE, MOST_OPS, Op, Ops};
 use keel_fields::{FieldError, bytes_at, u8_at, u32_between, u64_between};
 use std::alloc::Global;
-
-// The greatest sequence number, 2^56.
-const LAST_SEQ: u64 = 1 << 56;
 
 // A length below 2^7, in one byte.
 fn one_group(bytes: &[u8]) -> Option<(u32, &[u8])>
@@ -102,7 +99,7 @@ fn length_at(bytes: &[u8], least: u32, most: u32) -> Result<(u32, &[u8]), FieldE
 fn key_at(alloc: Global, bytes: &[u8]) -> Result<(Bytes, &[u8]), FieldError>
     ensures { Gives (λ x. (x.0, x.1.now)) result (spec.key_at bytes.now) }
 {
-    let (size, rest) = length_at(bytes, 1, 1024)?;
+    let (size, rest) = length_at(bytes, 1, LONGEST_KEY as u32)?;
     let (key, rest) = bytes_at(rest, size as usize)?;
     Ok((Bytes::from_slice(alloc, key)?, rest))
 }
@@ -111,7 +108,7 @@ fn key_at(alloc: Global, bytes: &[u8]) -> Result<(Bytes, &[u8]), FieldError>
 fn value_at(alloc: Global, bytes: &[u8]) -> Result<(Bytes, &[u8]), FieldError>
     ensures { Gives (λ x. (x.0, x.1.now)) result (spec.value_at bytes.now) }
 {
-    let (size, rest) = length_at(bytes, 0, 65536)?;
+    let (size, rest) = length_at(bytes, 0, LONGEST_VALUE as u32)?;
     let (value, rest) = bytes_at(rest, size as usize)?;
     Ok((Bytes::from_slice(alloc, value)?, rest))
 }
@@ -152,15 +149,15 @@ fn ops_at(alloc: Global, count: u32, bytes: &[u8]) -> Result<(Ops, &[u8]), Field
 fn most_ops(seq: u64) -> u32
     ensures { result ≡ spec.most_ops seq }
 {
-    let left = (LAST_SEQ + 1).saturating_sub(seq);
-    if left < 1000 { left as u32 } else { 1000 }
+    let left = (LAST_NUMBER + 1).saturating_sub(seq);
+    left.min(MOST_OPS as u64) as u32
 }
 
 #[tactic(auto, unfolding(crate::specs::Reading::batch_at))]
 fn batch_at(alloc: Global, bytes: &[u8]) -> Result<(Numbered, &[u8]), FieldError>
     ensures { Gives (λ x. ((x.0.seq, x.0.ops), x.1.now)) result (spec.batch_at bytes.now) }
 {
-    let (seq, rest) = u64_between(bytes, 1, LAST_SEQ)?;
+    let (seq, rest) = u64_between(bytes, 1, LAST_NUMBER)?;
     let (count, rest) = u32_between(rest, 1, most_ops(seq))?;
     let (ops, rest) = ops_at(alloc, count, rest)?;
     Ok((Numbered { seq, ops }, rest))

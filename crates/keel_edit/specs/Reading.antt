@@ -1,6 +1,7 @@
 -- An edit read from left to right, up to the first field that isn't there in full or isn't allowed. A count,
 -- a key's length and a key's bytes are fields of their own.
-use Rattle.std.specs.Prelude.{◌≡◌, ℕ, ◌-◌, ◌^◌, List, length, Result, Ok, Err, nat_le, ◌&&◌, if◌then◌else◌}
+use Rattle.keel_base.specs.declared.limits.TheConstants.{LAST_NUMBER, LONGEST_KEY}
+use Rattle.std.specs.Prelude.{◌≡◌, ℕ, ◌-◌, List, length, Result, Ok, Err, nat_le, ◌&&◌, if◌then◌else◌}
 use Rattle.std.specs.Int.{w32, w64}
 use Rattle.keel_base.specs.Keys.{key_le}
 use Rattle.keel_fields.specs.Reading.{Read, ◌>>=◌, bounded_at, bytes_at, sized_at, byte_at, linked, both, made, counted_at, alone}
@@ -26,15 +27,15 @@ level_at bytes = bounded_byte_at 0 3 bytes
 
 -- the number of a file
 abbrev pub file_number_at : List ℕ → Read ℕ
-file_number_at bytes = bounded_at w64 1 (2 ^ 56) bytes
+file_number_at bytes = bounded_at w64 1 LAST_NUMBER bytes
 
 -- another number
 abbrev pub any_number_at : List ℕ → Read ℕ
-any_number_at bytes = bounded_at w64 0 (2 ^ 56) bytes
+any_number_at bytes = bounded_at w64 0 LAST_NUMBER bytes
 
 -- the length of a key
 abbrev pub key_length_at : List ℕ → Read ℕ
-key_length_at bytes = bounded_at w32 1 1024 bytes
+key_length_at bytes = bounded_at w32 1 LONGEST_KEY bytes
 
 -- a key behind its length
 unfoldable pub key_at : List ℕ → Read (List ℕ)

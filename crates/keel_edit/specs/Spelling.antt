@@ -1,4 +1,5 @@
 -- Which edits there are, and the one spelling of each.
+use Rattle.keel_base.specs.declared.limits.TheConstants.{LAST_NUMBER}
 use Rattle.std.specs.Prelude.{◌≡◌, ℕ, ◌^◌, ◌<◌, ◌≤◌, true, List, ◌∷◌, ◌++◌, length}
 use Rattle.std.specs.List.{flat_map, AllByRecursion}
 use Rattle.std.specs.Int.{w32, w64, to_le_bytes}
@@ -43,7 +44,7 @@ spelling e =
 
 -- sizes, counts and sequence numbers go to 2^56, as file numbers do
 abbrev pub IsNumber : ℕ → Type 0
-IsNumber n = n ≤ 2 ^ 56
+IsNumber n = n ≤ LAST_NUMBER
 
 -- there are four levels
 abbrev pub IsLevel : ℕ → Type 0

@@ -7,13 +7,10 @@ ghost use Rattle.keel_edit.specs.Reading as spec;
 ghost use Rattle.keel_edit.specs.declared.edit.Edit.{Edit as AnEdit};
 
 use crate::edit::{Added, AddedList, Edit, EditError, Removed, RemovedList};
-use keel_base::Bytes;
+use keel_base::{Bytes, LAST_NUMBER, LONGEST_KEY};
 use keel_fields::{FieldError, bytes_at, u8_at, u32_at, u32_between, u64_between};
 use std::alloc::Global;
 use std::cmp::Ordering;
-
-// The greatest number, 2^56.
-const MOST: u64 = 1 << 56;
 
 const LAST_LEVEL: u8 = 3;
 
@@ -40,7 +37,7 @@ fn is_in_order(least: &[u8], greatest: &[u8]) -> bool
 fn key_at(alloc: Global, bytes: &[u8]) -> Result<(Bytes, &[u8]), FieldError>
     ensures { Gives (λ x. (x.0, x.1.now)) result (spec.key_at bytes.now) }
 {
-    let (size, rest) = u32_between(bytes, 1, 1024)?;
+    let (size, rest) = u32_between(bytes, 1, LONGEST_KEY as u32)?;
     let (key, rest) = bytes_at(rest, size as usize)?;
     Ok((Bytes::from_slice(alloc, key)?, rest))
 }
@@ -54,7 +51,7 @@ fn greatest_at<'a>(
 ) -> Result<(Bytes, &'a [u8]), FieldError>
     ensures { Gives (λ x. (x.0, x.1.now)) result (spec.greatest_at least.now bytes.now) }
 {
-    let (size, front) = u32_between(bytes, 1, 1024)?;
+    let (size, front) = u32_between(bytes, 1, LONGEST_KEY as u32)?;
     let (key, rest) = bytes_at(front, size as usize)?;
     if is_in_order(least, key) {
         Ok((Bytes::from_slice(alloc, key)?, rest))
@@ -68,7 +65,7 @@ fn removed_at(bytes: &[u8]) -> Result<(Removed, &[u8]), FieldError>
     ensures { Gives (λ x. (x.0, x.1.now)) result (spec.removed_at bytes.now) }
 {
     let (level, rest) = u8_between(bytes, 0, LAST_LEVEL)?;
-    let (number, rest) = u64_between(rest, 1, MOST)?;
+    let (number, rest) = u64_between(rest, 1, LAST_NUMBER)?;
     Ok((Removed { level, number }, rest))
 }
 
@@ -88,11 +85,11 @@ fn numbers_at(bytes: &[u8]) -> Result<(Numbers, &[u8]), FieldError>
     ensures { Gives (λ x. ((((((x.0.level, x.0.number), x.0.size), x.0.rows), x.0.first), x.0.last), x.1.now)) result (spec.numbers_at bytes.now) }
 {
     let (level, rest) = u8_between(bytes, 0, LAST_LEVEL)?;
-    let (number, rest) = u64_between(rest, 1, MOST)?;
-    let (size, rest) = u64_between(rest, 0, MOST)?;
-    let (rows, rest) = u64_between(rest, 0, MOST)?;
-    let (first, rest) = u64_between(rest, 0, MOST)?;
-    let (last, rest) = u64_between(rest, 0, MOST)?;
+    let (number, rest) = u64_between(rest, 1, LAST_NUMBER)?;
+    let (size, rest) = u64_between(rest, 0, LAST_NUMBER)?;
+    let (rows, rest) = u64_between(rest, 0, LAST_NUMBER)?;
+    let (first, rest) = u64_between(rest, 0, LAST_NUMBER)?;
+    let (last, rest) = u64_between(rest, 0, LAST_NUMBER)?;
     Ok((
         Numbers {
             level,
@@ -163,9 +160,9 @@ fn edit_at(alloc: Global, bytes: &[u8]) -> Result<(Edit, &[u8]), FieldError>
     ensures { Gives (λ x. (x.0, x.1.now)) result (spec.edit_at bytes.now) }
 {
     let (_, rest) = u8_between(bytes, 1, 1)?;
-    let (min_log, rest) = u64_between(rest, 0, MOST)?;
-    let (next_file, rest) = u64_between(rest, 1, MOST)?;
-    let (last_seq, rest) = u64_between(rest, 0, MOST)?;
+    let (min_log, rest) = u64_between(rest, 0, LAST_NUMBER)?;
+    let (next_file, rest) = u64_between(rest, 1, LAST_NUMBER)?;
+    let (last_seq, rest) = u64_between(rest, 0, LAST_NUMBER)?;
     let (removed_count, rest) = u32_at(rest)?;
     let (removed, rest) = removed_list_at(alloc, removed_count, rest)?;
     let (added_count, rest) = u32_at(rest)?;

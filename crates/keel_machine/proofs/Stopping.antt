@@ -66,4 +66,4 @@ stopping paranoid (Some failure) severe =
 pub log_failure_stops : LogFailureStops
 log_failure_stops s fault =
     stopping s.failing.paranoid (standing_of s.failing.paranoid (s.failing.failures ++ failure_of fault ∷ []))
-        (behind s.failing.paranoid s.failing.failures (failure_of fault) (log_severe s.failing.paranoid fault))
+    (behind s.failing.paranoid s.failing.failures (failure_of fault) (log_severe s.failing.paranoid fault))

@@ -1,6 +1,7 @@
 -- Which batches are queued, and which outcomes are kept.
-use Rattle.std.specs.Prelude.{◌≡◌, ℕ, ◌+◌, ◌^◌, ◌==◌, nat_le, nat_lt, not, ◌&&◌, Bool, List, [], ◌∷◌, ◌++◌, length, map, find, filter, Option, Some, None, if◌then◌else◌, option_map, unwrap_or}
+use Rattle.std.specs.Prelude.{◌≡◌, ℕ, ◌+◌, ◌==◌, nat_le, nat_lt, not, ◌&&◌, Bool, List, [], ◌∷◌, ◌++◌, length, map, find, filter, Option, Some, None, if◌then◌else◌, option_map, unwrap_or}
 use Rattle.std.specs.List.{list_any}
+use Rattle.keel_base.specs.declared.limits.TheConstants.{GREATEST_WEIGHT, LAST_NUMBER, LONGEST_KEY, LONGEST_VALUE, MOST_OPS}
 use Rattle.keel_base.specs.declared.failure.Failure.{Failure}
 use Rattle.keel_base.specs.declared.failure.Counter.TheVariants.{Sequence, Ticket}
 use Rattle.keel_base.specs.declared.op.Batch.{Batch}
@@ -58,13 +59,13 @@ seq_with s batch = last_seq s + ops_on_their_way s + length batch.ops
 -- ---- sizes
 
 abbrev pub is_key_length : ℕ → Bool
-is_key_length length = nat_le 1 length && nat_le length 1024
+is_key_length length = nat_le 1 length && nat_le length LONGEST_KEY
 
 -- a length of an op that isn't within its limits, its key's first
 abbrev pub op_refusal : Op → Option Admit
 op_refusal (Put key value) = first_some (
     when (not (is_key_length (length key))) (BadSize Key (length key))
-    ∷ when (nat_lt 65536 (length value)) (BadSize Value (length value))
+    ∷ when (nat_lt LONGEST_VALUE (length value)) (BadSize Value (length value))
     ∷ [])
 op_refusal (Del key) = when (not (is_key_length (length key))) (BadSize Key (length key))
 
@@ -77,17 +78,17 @@ ops_refusal (op ∷ ops) = first_some (op_refusal op ∷ ops_refusal ops ∷ [])
 abbrev pub size_refusal : Batch → Option Admit
 size_refusal batch = first_some (
     ops_refusal batch.ops
-    ∷ when (not (nat_le 1 (length batch.ops) && nat_le (length batch.ops) 1000)) (BadSize part.Batch (length batch.ops))
-    ∷ when (nat_lt 1048576 (weight_of batch.ops)) (BadSize part.Batch (weight_of batch.ops))
+    ∷ when (not (nat_le 1 (length batch.ops) && nat_le (length batch.ops) MOST_OPS)) (BadSize part.Batch (length batch.ops))
+    ∷ when (nat_lt GREATEST_WEIGHT (weight_of batch.ops)) (BadSize part.Batch (weight_of batch.ops))
     ∷ [])
 
 -- ---- admission
 
 abbrev pub is_sequence_spent : State → Batch → Bool
-is_sequence_spent s batch = nat_lt (2 ^ 56) (seq_with s batch)
+is_sequence_spent s batch = nat_lt LAST_NUMBER (seq_with s batch)
 
 abbrev pub is_ticket_spent : State → Bool
-is_ticket_spent s = nat_le (2 ^ 56) s.writing.last_ticket
+is_ticket_spent s = nat_le LAST_NUMBER s.writing.last_ticket
 
 abbrev pub is_queue_full : State → Bool
 is_queue_full s = nat_le MAX_WAITING (length s.writing.waiting)

@@ -1,5 +1,6 @@
 -- The write step: when it rests, and the call that it makes.
-use Rattle.std.specs.Prelude.{ℕ, ◌+◌, ◌^◌, ◌==◌, nat_le, not, ◌&&◌, Bool, true, false, List, [], ◌∷◌, ◌++◌, length, take, drop, Option, Some, None, if◌then◌else◌, option_map, unwrap_or, is_some}
+use Rattle.std.specs.Prelude.{ℕ, ◌+◌, ◌==◌, nat_le, not, ◌&&◌, Bool, true, false, List, [], ◌∷◌, ◌++◌, length, take, drop, Option, Some, None, if◌then◌else◌, option_map, unwrap_or, is_some}
+use Rattle.keel_base.specs.declared.limits.TheConstants.{LAST_NUMBER}
 use Rattle.keel_base.specs.declared.failure.Call.{Call}
 use Rattle.keel_base.specs.declared.failure.Call.TheVariants as call
 use Rattle.keel_base.specs.declared.failure.Counter.TheVariants.{FileNumber, JobNumber}
@@ -61,10 +62,10 @@ abbrev pub is_nobody_waiting : State → Bool
 is_nobody_waiting s = length s.writing.waiting == 0
 
 abbrev pub is_job_spent : State → Bool
-is_job_spent s = nat_le (2 ^ 56) s.jobs.write.number
+is_job_spent s = nat_le LAST_NUMBER s.jobs.write.number
 
 abbrev pub is_file_spent : State → Bool
-is_file_spent s = nat_le (2 ^ 56) s.numbers.next_file
+is_file_spent s = nat_le LAST_NUMBER s.numbers.next_file
 
 -- without a group in flight, in the order of the tests
 abbrev pub rests_before_group : State → List (Option WriteStep)

@@ -1,5 +1,6 @@
 -- What holds of a memtable's parts.
-use Rattle.std.specs.Prelude.{◌≡◌, ℕ, ◌+◌, ◌*◌, ◌^◌, ◌≤◌, All, length, sum_by}
+use Rattle.keel_base.specs.declared.limits.TheConstants.{LAST_NUMBER}
+use Rattle.std.specs.Prelude.{◌≡◌, ℕ, ◌+◌, ◌*◌, ◌≤◌, All, length, sum_by}
 use Rattle.keel_base.specs.Rows.{IsRow}
 use Rattle.keel_region.specs.Order.{AreInOrder}
 use Rattle.keel_region.specs.Shown.{RegionShown, IndexShown}
@@ -16,7 +17,7 @@ pub record HoldsRows (region : RegionShown) (index : IndexShown) (free_bytes fre
   pub places : free_entries ≤ index.spare
   pub first_is : first ≡ least_seq (rows_by_arrival region.bytes index.entries)
   pub last_is : last ≡ greatest_seq (rows_by_arrival region.bytes index.entries)
-  pub last_within : last ≤ 2 ^ 56
+  pub last_within : last ≤ LAST_NUMBER
   pub limits : All IsRow (rows_by_arrival region.bytes index.entries)
   pub total : length region.bytes ≡ sum_by row_bytes (rows_in region.bytes index.entries)
   pub weight : 16 * (length index.entries + free_entries) + (length region.bytes + free_bytes) ≤ most_weight

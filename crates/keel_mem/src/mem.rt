@@ -12,7 +12,7 @@ ghost use Rattle.keel_mem.specs.Totals.{most_weight, weight_of, least_seq, great
 use crate::found::Found;
 use crate::rows::MemRows;
 use crate::sizes::ops_size;
-use keel_base::{Batch, Kind, Op, OutOfMemory};
+use keel_base::{Batch, Kind, LAST_NUMBER, MOST_OPS, Op, OutOfMemory};
 use keel_region::{Index, IndexEntry, Region};
 use std::alloc::Global;
 use std::marker::Model;
@@ -63,7 +63,7 @@ impl Mem {
     /// is also the answer where the rows would weigh more than `MAX_MEM_WEIGHT`.
     pub fn reserve(&mut self, batch: &Batch) -> Result<(), OutOfMemory>
         requires limits { AllByRecursion IsWithinLimits batch.now.ops }
-        requires few { length batch.now.ops ≤ 1000 }
+        requires few { length batch.now.ops ≤ MOST_OPS }
         ensures rows { self.new.rows ≡ self.old.rows }
         ensures bytes { OnOk result (self.new.bytes ≡ self.old.bytes + bytes_of batch.now.ops) }
         ensures entries { OnOk result (self.new.entries ≡ self.old.entries + length batch.now.ops) }
@@ -78,7 +78,7 @@ impl Mem {
         requires bytes { bytes_of batch.now.ops ≤ self.old.bytes }
         requires entries { length batch.now.ops ≤ self.old.entries }
         requires above { All (λ row. row.seq < seq) self.old.rows }
-        requires last { seq + length batch.now.ops ≤ 2 ^ 56 + 1 }
+        requires last { seq + length batch.now.ops ≤ LAST_NUMBER + 1 }
         ensures rows { self.new.rows ≡ self.old.rows ++ op_rows seq batch.now.ops }
         ensures bytes { self.new.bytes + bytes_of batch.now.ops ≡ self.old.bytes }
         ensures entries { self.new.entries + length batch.now.ops ≡ self.old.entries }
@@ -89,7 +89,7 @@ impl Mem {
     /// Takes the memory that some ops need, as `reserve` does for a batch.
     pub fn reserve_ops(&mut self, ops: &[Op]) -> Result<(), OutOfMemory>
         requires limits { AllByRecursion IsWithinLimits ops.now }
-        requires few { length ops.now ≤ 1000 }
+        requires few { length ops.now ≤ MOST_OPS }
         ensures rows { self.new.rows ≡ self.old.rows }
         ensures bytes { OnOk result (self.new.bytes ≡ self.old.bytes + bytes_of ops.now) }
         ensures entries { OnOk result (self.new.entries ≡ self.old.entries + length ops.now) }
@@ -125,7 +125,7 @@ impl Mem {
         requires bytes { bytes_of ops.now ≤ self.old.bytes }
         requires entries { length ops.now ≤ self.old.entries }
         requires above { All (λ row. row.seq < seq) self.old.rows }
-        requires last { seq + length ops.now ≤ 2 ^ 56 + 1 }
+        requires last { seq + length ops.now ≤ LAST_NUMBER + 1 }
         ensures rows { self.new.rows ≡ self.old.rows ++ op_rows seq ops.now }
         ensures bytes { self.new.bytes + bytes_of ops.now ≡ self.old.bytes }
         ensures entries { self.new.entries + length ops.now ≡ self.old.entries }
@@ -142,7 +142,7 @@ impl Mem {
         requires entries { 0 < self.old.entries }
         requires limits { IsWithinLimits op.now }
         requires above { All (λ row. row.seq < seq) self.old.rows }
-        requires within { seq ≤ 2 ^ 56 }
+        requires within { seq ≤ LAST_NUMBER }
         ensures rows { self.new.rows ≡ self.old.rows ++ op_row seq op.now ∷ [] }
         ensures bytes { self.new.bytes + op_bytes op.now ≡ self.old.bytes }
         ensures entries { self.new.entries + 1 ≡ self.old.entries }
@@ -158,7 +158,7 @@ impl Mem {
         requires entries { 0 < self.old.entries }
         requires limits { IsRow (record { seq = seq; kind = kind; key = key.now; value = value.now }) }
         requires above { All (λ row. row.seq < seq) self.old.rows }
-        requires within { seq ≤ 2 ^ 56 }
+        requires within { seq ≤ LAST_NUMBER }
         ensures rows { self.new.rows ≡ self.old.rows ++ record { seq = seq; kind = kind; key = key.now; value = value.now } ∷ [] }
         ensures bytes { self.new.bytes + (length key.now + length value.now) ≡ self.old.bytes }
         ensures entries { self.new.entries + 1 ≡ self.old.entries }
@@ -230,7 +230,7 @@ impl Mem {
     /// The greatest sequence number, or 0 where there is no row.
     pub fn last(&self) -> u64
         ensures value { result ≡ greatest_seq self.now.rows }
-        ensures bound { result ≤ 2 ^ 56 }
+        ensures bound { result ≤ LAST_NUMBER }
     {
         self.last
     }

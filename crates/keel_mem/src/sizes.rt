@@ -4,7 +4,7 @@ ghost use Rattle.std.specs.List.{AllByRecursion};
 ghost use Rattle.keel_base.specs.Weight.{IsWithinLimits};
 ghost use Rattle.keel_mem.specs.Needs.{op_bytes, bytes_of};
 
-use keel_base::Op;
+use keel_base::{MOST_OPS, Op};
 
 fn op_size(op: &Op) -> usize
     requires { IsWithinLimits op.now }
@@ -20,7 +20,7 @@ fn op_size(op: &Op) -> usize
 /// The bytes of all keys and values.
 pub(crate) fn ops_size(ops: &[Op]) -> usize
     requires limits { AllByRecursion IsWithinLimits ops.now }
-    requires few { length ops.now ≤ 1000 }
+    requires few { length ops.now ≤ MOST_OPS }
     ensures { result ≡ bytes_of ops.now }
 {
     let mut total = 0;

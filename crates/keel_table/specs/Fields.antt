@@ -3,6 +3,7 @@ use Rattle.std.specs.Prelude.{ℕ, zero, suc, ◌+◌, Bool, true, false, ◌&&�
 use Rattle.std.specs.Int.{w32, w64}
 use Rattle.std.specs.declared.cmp.Ordering.{Ordering}
 use Rattle.std.specs.declared.cmp.Ordering.TheVariants.{Less, Equal, Greater}
+use Rattle.keel_base.specs.declared.limits.TheConstants.{LONGEST_KEY}
 use Rattle.keel_base.specs.declared.row.Row.{Row}
 use Rattle.keel_base.specs.declared.row.Kind.{Kind}
 use Rattle.keel_base.specs.declared.row.Kind.TheVariants as kinds
@@ -27,7 +28,7 @@ Header = ((ℕ × Kind) × ℕ) × ℕ
 
 -- what stands before a row's key, with lengths within their limits
 unfoldable pub header_at : List ℕ → Read Header
-header_at bytes = linked (both (both (number_at w64) kind_at) (bounded_at w32 1 1024)) (λ h. bounded_at w32 0 (most_value h.0.1)) bytes
+header_at bytes = linked (both (both (number_at w64) kind_at) (bounded_at w32 1 LONGEST_KEY)) (λ h. bounded_at w32 0 (most_value h.0.1)) bytes
 
 -- the row of a header, a key and a value
 abbrev pub make_row : (Header × List ℕ) × List ℕ → Row

@@ -8,7 +8,7 @@ ghost use Rattle.keel_base.specs.Rows.{most_value};
 
 use crate::index::{BlockEntries, BlockEntry, Footer};
 use crate::view::RowView;
-use keel_base::{Bytes, Kind, OutOfMemory, Rows};
+use keel_base::{Bytes, Kind, LONGEST_KEY, LONGEST_VALUE, OutOfMemory, Rows};
 use keel_fields::{FieldError, bytes_at, u32_at, u32_between, u64_at};
 use std::alloc::Global;
 use std::cmp::Ordering;
@@ -30,7 +30,7 @@ fn most_value(kind: Kind) -> u32
     ensures { result ≡ most_value kind }
 {
     match kind {
-        Kind::Put => 65536,
+        Kind::Put => LONGEST_VALUE as u32,
         Kind::Del => 0,
     }
 }
@@ -50,7 +50,7 @@ fn header_at(bytes: &[u8]) -> Result<(Header, &[u8]), FieldError>
 {
     let (seq, rest) = u64_at(bytes)?;
     let (kind, rest) = kind_at(rest)?;
-    let (key, rest) = u32_between(rest, 1, 1024)?;
+    let (key, rest) = u32_between(rest, 1, LONGEST_KEY as u32)?;
     let (value, rest) = u32_between(rest, 0, most_value(kind))?;
     Ok((
         Header {
