@@ -1,5 +1,5 @@
 // Reading a batch, field by field.
-ghost use Rattle.std.specs.Prelude.{◌≡◌, ℕ, ◌<◌, ◌*◌, List, length, IfOk, IfSome, Ok};
+ghost use Rattle.std.specs.Prelude.{◌≡◌, ℕ, ◌+◌, ◌-◌, ◌<◌, ◌≤◌, ◌*◌, List, length, IfOk, IfSome, Ok, option_map};
 ghost use Rattle.keel_base.specs.declared.op.Op.{Op};
 ghost use Rattle.keel_fields.specs.Reading.{Gives, many_at};
 ghost use Rattle.keel_batch.specs.Spelling.{IsBatch, spelling};
@@ -10,6 +10,21 @@ use keel_base::{Bytes, LAST_NUMBER, LONGEST_KEY, LONGEST_VALUE, MOST_OPS, Op, Op
 use keel_fields::{FieldError, bytes_at, u8_at, u32_between, u64_between};
 use std::alloc::Global;
 
+// The groups above a byte whose top bit is set, with what that byte holds below them. A number in its shortest form has no
+// highest group of 0.
+fn high_group(byte: u8, high: Option<(u32, &[u8])>) -> Option<(u32, &[u8])>
+    requires top { 128 ≤ byte }
+    requires bound { IfSome high (λ x. x.0 < 16384) }
+    ensures read { spec.Shows (λ x. (x.0, x.1.now)) result (spec.high_group (byte - 128) (option_map (λ x. (x.0, x.1.now)) high.entry)) }
+    ensures value { IfSome result (λ x. IfSome high.entry (λ y. x.0 ≡ byte - 128 + 128 * y.0)) }
+{
+    match high {
+        None => None,
+        Some((0, _)) => None,
+        Some((high, rest)) => Some((u32::from(byte) - 128 + 128 * high, rest)),
+    }
+}
+
 // A length below 2^7, in one byte.
 fn one_group(bytes: &[u8]) -> Option<(u32, &[u8])>
     ensures read { spec.Shows (λ x. (x.0, x.1.now)) result (spec.varint_at 1 bytes.now) }
@@ -17,13 +32,8 @@ fn one_group(bytes: &[u8]) -> Option<(u32, &[u8])>
 {
     match bytes {
         [] => None,
-        [byte, rest @ ..] => {
-            if *byte < 128 {
-                Some((u32::from(*byte), rest))
-            } else {
-                None
-            }
-        }
+        [byte, rest @ ..] if *byte < 128 => Some((u32::from(*byte), rest)),
+        [byte, rest @ ..] => None,
     }
 }
 
@@ -34,22 +44,8 @@ fn two_groups(bytes: &[u8]) -> Option<(u32, &[u8])>
 {
     match bytes {
         [] => None,
-        [byte, rest @ ..] => {
-            if *byte < 128 {
-                Some((u32::from(*byte), rest))
-            } else {
-                match one_group(rest) {
-                    None => None,
-                    Some((high, rest)) => {
-                        if high == 0 {
-                            None
-                        } else {
-                            Some((u32::from(*byte) - 128 + 128 * high, rest))
-                        }
-                    }
-                }
-            }
-        }
+        [byte, rest @ ..] if *byte < 128 => Some((u32::from(*byte), rest)),
+        [byte, rest @ ..] => high_group(*byte, one_group(rest)),
     }
 }
 
@@ -60,22 +56,8 @@ fn three_groups(bytes: &[u8]) -> Option<(u32, &[u8])>
 {
     match bytes {
         [] => None,
-        [byte, rest @ ..] => {
-            if *byte < 128 {
-                Some((u32::from(*byte), rest))
-            } else {
-                match two_groups(rest) {
-                    None => None,
-                    Some((high, rest)) => {
-                        if high == 0 {
-                            None
-                        } else {
-                            Some((u32::from(*byte) - 128 + 128 * high, rest))
-                        }
-                    }
-                }
-            }
-        }
+        [byte, rest @ ..] if *byte < 128 => Some((u32::from(*byte), rest)),
+        [byte, rest @ ..] => high_group(*byte, two_groups(rest)),
     }
 }
 
