@@ -1,5 +1,5 @@
 // A search tree whose nodes lie in a pool, and which is kept in balance.
-ghost use Rattle.std.specs.Prelude.{◌≡◌, ℕ, ◌+◌, ◌<◌, length, false, Some, IsSome};
+ghost use Rattle.std.specs.Prelude.{◌≡◌, ℕ, ◌+◌, ◌<◌, length, false, Some, IsSome, IfSome};
 ghost use Rattle.keel_region.specs.Order.{entry_before, AreInOrder, IsNew};
 ghost use Rattle.keel_region.specs.Slots.{node_at};
 ghost use Rattle.keel_region.specs.Spans.{bytes_at, IsHeld};
@@ -41,6 +41,14 @@ fn write(pool: &mut Pool, slot: Slot, node: Node)
     );
 }
 
+/// A child's slot with its node, where there is one.
+fn child_at(pool: &Pool, child: Option<Slot>) -> Option<(Slot, Node)>
+    ensures { IfSome result (λ x. (child ≡ Some x.0) × (node_at pool.now.slots x.0.place ≡ Some x.1)) }
+{
+    let slot = child?;
+    Some((slot, pool.get(slot)?))
+}
+
 /// Writes the node with its left child in its place, below which it is then on the right.
 fn raise_left(pool: &mut Pool, slot: Slot, node: Node) -> Slot
     requires { IsSome (node_at pool.old.slots slot.place) }
@@ -49,37 +57,15 @@ fn raise_left(pool: &mut Pool, slot: Slot, node: Node) -> Slot
     ensures spare { pool.new.spare ≡ pool.old.spare }
     ensures length { length pool.new.slots ≡ length pool.old.slots }
 {
-    match node.left {
-        None => {
-            write(pool, slot, node);
-            slot
-        }
-        Some(child) => match pool.get(child) {
-            None => {
-                write(pool, slot, node);
-                slot
-            }
-            Some(lower) => {
-                write(
-                    pool,
-                    slot,
-                    Node {
-                        left: lower.right,
-                        ..node
-                    },
-                );
-                write(
-                    pool,
-                    child,
-                    Node {
-                        right: Some(slot),
-                        ..lower
-                    },
-                );
-                child
-            }
-        },
-    }
+    let Some((child, lower)) = child_at(pool, node.left) else {
+        write(pool, slot, node);
+        return slot;
+    };
+    let left = lower.right;
+    write(pool, slot, Node { left, ..node });
+    let right = Some(slot);
+    write(pool, child, Node { right, ..lower });
+    child
 }
 
 /// Writes the node with its right child in its place, below which it is then on the left.
@@ -90,37 +76,15 @@ fn raise_right(pool: &mut Pool, slot: Slot, node: Node) -> Slot
     ensures spare { pool.new.spare ≡ pool.old.spare }
     ensures length { length pool.new.slots ≡ length pool.old.slots }
 {
-    match node.right {
-        None => {
-            write(pool, slot, node);
-            slot
-        }
-        Some(child) => match pool.get(child) {
-            None => {
-                write(pool, slot, node);
-                slot
-            }
-            Some(lower) => {
-                write(
-                    pool,
-                    slot,
-                    Node {
-                        right: lower.left,
-                        ..node
-                    },
-                );
-                write(
-                    pool,
-                    child,
-                    Node {
-                        left: Some(slot),
-                        ..lower
-                    },
-                );
-                child
-            }
-        },
-    }
+    let Some((child, lower)) = child_at(pool, node.right) else {
+        write(pool, slot, node);
+        return slot;
+    };
+    let right = lower.left;
+    write(pool, slot, Node { right, ..node });
+    let left = Some(slot);
+    write(pool, child, Node { left, ..lower });
+    child
 }
 
 /// The tree below the root, turned so that it isn't higher on the right.
