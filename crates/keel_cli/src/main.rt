@@ -23,22 +23,22 @@ mod answer;
 mod draining;
 mod driver;
 mod lines;
-mod place;
 mod putting;
 mod stepping;
+mod store;
 mod top;
 
 pub use answer::{Answer, text_of};
-pub use driver::{Driven, Driver, carry_out};
+pub use driver::Driver;
 use keel_base::{ReadSource, WriteSink, give_all};
 use keel_dirdisk::DirDisk;
 use keel_disk::Device;
 use keel_simdisk::SimDisk;
-pub use lines::{LineDone, LineStop, LinesDone, StopPlace, carry_lines};
-pub use place::{Carried, Place, carry_on_store, finish};
+pub use lines::{LineStop, LinesDone, StopPlace, run_lines};
 use std::alloc::Global;
 use std::process::ExitCode;
 use std::{env, io};
+pub use store::Store;
 pub use top::{End, Ended, run_words};
 
 // How many bytes the device holds.

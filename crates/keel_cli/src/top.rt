@@ -6,7 +6,7 @@ ghost use Rattle.keel_cli.specs.declared.top.End.{End};
 ghost use Rattle.keel_cli.specs.Ends.{Ends, NamesNoLine, StaysOrRunsOut, named, outside, message_of, status_of, Tells};
 ghost use Rattle.keel_cli.specs.Words.{AskForRun, IsPath};
 
-use crate::{LinesDone, carry_lines};
+use crate::{LinesDone, run_lines};
 use keel_base::{OutOfMemory, Sink, Source, give_all};
 use keel_disk::Device;
 use std::alloc::Global;
@@ -76,7 +76,7 @@ fn work<S: Source, K: Sink, V: Device>(
     ensures taken { TakesFew (S.remaining source) (S.remaining result.source) }
 {
     if ask_for_run(words) {
-        carry_lines(alloc, source, out, device)
+        run_lines(alloc, source, out, device)
     } else {
         LinesDone {
             source,

@@ -3,10 +3,9 @@ use Rattle.keel_lines.specs.Delivered.{Delivered}
 use Rattle.keel_lines.specs.Lines.{longest_input}
 use Rattle.keel_machine.specs.States.{Footing}
 use Rattle.keel_cli.specs.Driving.{DriverLeads}
-use Rattle.keel_cli.specs.Places.{IsTidy}
 use Rattle.keel_cli.specs.Sessions.{MayBegin}
 use Rattle.keel_cli.proofs.Running.{RunsSoFar}
-use Rattle.keel_cli.proofs.lines.carry_lines.Given as goal
+use Rattle.keel_cli.proofs.lines.run_lines.Given as goal
 
 -- these lines were given, and carried out
 abbrev pub invariant-lines : goal.invariant-lines
@@ -17,8 +16,7 @@ invariant-lines g l = record {
   few : l.number ≤ l.reader.passed;
   within : l.reader.passed ≤ longest_input;
   so_far : (footing : Footing) → MayBegin footing (g.V.Disk.seen l.fn.device).told
-      → DriverLeads g.V.Disk.seen l.driver (RunsSoFar footing (g.V.Disk.seen l.fn.device) (g.K.Sink.held l.fn.out) lines (g.K.Sink.held l.out));
-  tidy : IsTidy l.driver.place;
+      → DriverLeads l.driver (RunsSoFar footing (g.V.Disk.seen l.fn.device) (g.K.Sink.held l.fn.out) lines (g.K.Sink.held l.out));
   later : g.K.Sink.faults l.fn.out ≤ g.K.Sink.faults l.out;
   read_later : g.S.Source.faults l.fn.source ≤ l.reader.faults;
 }

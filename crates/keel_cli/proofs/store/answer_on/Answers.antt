@@ -4,56 +4,56 @@ use Rattle.keel_cli.specs.Drains.{DrainRun, DrainCut}
 use Rattle.keel_cli.specs.Puts.{put_batch, del_batch, PutRun, PutCut, QueueRun, QueueCut}
 use Rattle.keel_cli.specs.Writes.{WriteRun, WriteCut}
 use Rattle.keel_cli.proofs.Carrying.{called}
-use Rattle.keel_cli.proofs.place.carry_write.Goals as goal
+use Rattle.keel_cli.proofs.store.answer_on.Goals as goal
 
 pub returns-in-Put-clause-out : goal.returns-in-Put-clause-out
 returns-in-Put-clause-out g c s stands =
     let batch = put_batch c.in-Put.key c.in-Put.value c.in-Put.sync in
-    let ran = c.put_pair-reply in
+    let ran = c.put_pair in
     rw c.in-Put.is
-    (called g.row.V.Denot g.V.Disk.seen s (Put c.in-Put.key c.in-Put.value c.in-Put.sync) c.args.core ran.new.core ran.result c.one.result
+    (called s (Put c.in-Put.key c.in-Put.value c.in-Put.sync) c.args.core.now ran.new.core ran.result c.one.result
     (PutRun s batch) (λ next. (next ≡ s) ⊎ PutCut s batch next) stands refl (λ replies next run. run) (λ next cut. cut)
     c.one.ensures.ok c.one.ensures.err (ran.ensures.carried s stands) (ran.ensures.cut s stands))
 
 pub returns-in-Del-clause-out : goal.returns-in-Del-clause-out
 returns-in-Del-clause-out g c s stands =
     let batch = del_batch c.in-Del.key c.in-Del.sync in
-    let ran = c.delete_key-reply in
+    let ran = c.delete_key in
     rw c.in-Del.is
-    (called g.row.V.Denot g.V.Disk.seen s (Del c.in-Del.key c.in-Del.sync) c.args.core ran.new.core ran.result c.one-in-Del.result
+    (called s (Del c.in-Del.key c.in-Del.sync) c.args.core.now ran.new.core ran.result c.one-in-Del.result
     (PutRun s batch) (λ next. (next ≡ s) ⊎ PutCut s batch next) stands refl (λ replies next run. run) (λ next cut. cut)
     c.one-in-Del.ensures.ok c.one-in-Del.ensures.err (ran.ensures.carried s stands) (ran.ensures.cut s stands))
 
 pub returns-in-QueuePut-clause-out : goal.returns-in-QueuePut-clause-out
 returns-in-QueuePut-clause-out g c s stands =
     let batch = put_batch c.in-QueuePut.key c.in-QueuePut.value c.in-QueuePut.sync in
-    let ran = c.queue_pair-reply in
+    let ran = c.queue_pair in
     rw c.in-QueuePut.is
-    (called g.row.V.Denot g.V.Disk.seen s _ c.args.core ran.new.core ran.result c.one-in-QueuePut.result
+    (called s _ c.args.core.now ran.new.core ran.result c.one-in-QueuePut.result
     (QueueRun s batch) (λ next. (next ≡ s) ⊎ QueueCut s batch next) stands refl (λ replies next run. run) (λ next cut. cut)
     c.one-in-QueuePut.ensures.ok c.one-in-QueuePut.ensures.err (ran.ensures.carried s stands) (ran.ensures.cut s stands))
 
 pub returns-in-QueueDel-clause-out : goal.returns-in-QueueDel-clause-out
 returns-in-QueueDel-clause-out g c s stands =
     let batch = del_batch c.in-QueueDel.key c.in-QueueDel.sync in
-    let ran = c.queue_delete-reply in
+    let ran = c.queue_delete in
     rw c.in-QueueDel.is
-    (called g.row.V.Denot g.V.Disk.seen s _ c.args.core ran.new.core ran.result c.one-in-QueueDel.result
+    (called s _ c.args.core.now ran.new.core ran.result c.one-in-QueueDel.result
     (QueueRun s batch) (λ next. (next ≡ s) ⊎ QueueCut s batch next) stands refl (λ replies next run. run) (λ next cut. cut)
     c.one-in-QueueDel.ensures.ok c.one-in-QueueDel.ensures.err (ran.ensures.carried s stands) (ran.ensures.cut s stands))
 
 pub returns-in-Write-clause-out : goal.returns-in-Write-clause-out
 returns-in-Write-clause-out g c s stands =
-    let ran = c.write-reply in
+    let ran = c.write in
     rw c.in-Write.is
-    (called g.row.V.Denot g.V.Disk.seen s Write c.args.core ran.new.core ran.result c.one-in-Write.result
+    (called s Write c.args.core.now ran.new.core ran.result c.one-in-Write.result
     (WriteRun s) (WriteCut s) stands refl (λ replies next run. run) (λ next cut. inr cut)
     c.one-in-Write.ensures.ok c.one-in-Write.ensures.err (ran.ensures.carried s stands) (ran.ensures.cut s stands))
 
 pub returns-in-Drain-clause-out : goal.returns-in-Drain-clause-out
 returns-in-Drain-clause-out g c s stands =
-    let ran = c.drain-reply in
+    let ran = c.drain in
     rw c.in-Drain.is
-    (called g.row.V.Denot g.V.Disk.seen s (Drain c.in-Drain.moves) c.args.core ran.new.core ran.result c.one-in-Drain.result
+    (called s (Drain c.in-Drain.moves) c.args.core.now ran.new.core ran.result c.one-in-Drain.result
     (DrainRun c.in-Drain.moves s) (DrainCut c.in-Drain.moves s) stands refl (λ replies next run. run) (λ next cut. inr cut)
     c.one-in-Drain.ensures.ok c.one-in-Drain.ensures.err (ran.ensures.carried s stands) (ran.ensures.cut s stands))
