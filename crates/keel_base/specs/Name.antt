@@ -1,8 +1,9 @@
 -- Names of files: which there are, when two are the same, how they are printed, and their order.
-use Rattle.std.specs.Prelude.{ℕ, ◌-◌, ◌≤◌, ◌^◌, ◌==◌, Bool, true, false, List, ◌++◌, length, replicate, codes}
+use Rattle.std.specs.Prelude.{ℕ, ◌-◌, ◌≤◌, ◌==◌, Bool, true, false, List, ◌++◌, length, replicate, codes}
 use Rattle.std.specs.Fmt.{decimal}
 use Rattle.keel_base.specs.declared.file_name.FileName.{FileName}
 use Rattle.keel_base.specs.declared.file_name.FileName.TheVariants.{Log, Table, Trash, Manifest, Current, Temp}
+use Rattle.keel_base.specs.declared.limits.TheConstants.{LAST_NUMBER}
 use Rattle.keel_base.specs.Keys.{key_lt}
 
 -- whether two names are the same
@@ -15,10 +16,10 @@ name_eq Current Current = true
 name_eq (Temp m) (Temp n) = m == n
 name_eq _ _ = false
 
--- files are numbered from 1 to 2^56
+-- files are numbered from 1 to the last number
 pub record IsFileNumber (number : ℕ) : Type 0 where
   pub least : 1 ≤ number
-  pub most : number ≤ 2 ^ 56
+  pub most : number ≤ LAST_NUMBER
 
 -- a name that a file of the store may have
 abbrev pub IsName : FileName → Type 0

@@ -1,6 +1,7 @@
 -- What a row is, and what rows say of keys: of all rows of a key, the one of the greatest sequence number counts.
 use Rattle.std.specs.Prelude.{◌≡◌, ℕ, ◌+◌, ◌^◌, ◌<◌, ◌≤◌, List, [], ◌∷◌, length, Option, Some, None, nat_lt, if◌then◌else◌}
 use Rattle.std.specs.FinMap.{get}
+use Rattle.keel_base.specs.declared.limits.TheConstants.{LONGEST_KEY, LONGEST_VALUE}
 use Rattle.keel_base.specs.declared.op.Op.{Op}
 use Rattle.keel_base.specs.declared.op.Op.TheVariants.{Put, Del}
 use Rattle.keel_base.specs.declared.row.Row.{Row}
@@ -11,14 +12,14 @@ use Rattle.keel_base.specs.Points.{Values}
 
 -- how many bytes the value of a row of that kind may have
 abbrev pub most_value : Kind → ℕ
-most_value kinds.Put = 65536
+most_value kinds.Put = LONGEST_VALUE
 most_value kinds.Del = 0
 
 -- a key and a value within their limits; a delete has an empty value
 pub record IsRow (r : Row) : Type 0 where
   pub seq : r.seq < 2 ^ 64
   pub least : 1 ≤ length r.key
-  pub most : length r.key ≤ 1024
+  pub most : length r.key ≤ LONGEST_KEY
   pub value : length r.value ≤ most_value r.kind
 
 -- what an op of that number leaves

@@ -1,6 +1,7 @@
 // Changes of the map, and batches of them.
 ghost use Rattle.std.specs.Prelude.{◌≡◌, ◌≤◌, length};
 ghost use Rattle.std.specs.List.{AllByRecursion};
+ghost use Rattle.keel_base.specs.declared.limits.TheConstants.{MOST_OPS};
 ghost use Rattle.keel_base.specs.Weight.{weight as weight_of_op, weight_of, IsWithinLimits};
 
 use crate::{Bytes, Sequence};
@@ -39,7 +40,7 @@ pub fn weight(op: &Op) -> u64
 /// What some ops count for together.
 pub fn ops_weight(ops: &[Op]) -> u64
     requires within { AllByRecursion IsWithinLimits ops.now }
-    requires few { length ops.now ≤ 1000 }
+    requires few { length ops.now ≤ MOST_OPS }
     ensures { result ≡ weight_of ops.now }
 {
     let mut total = 0;

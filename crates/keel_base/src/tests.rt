@@ -1,7 +1,7 @@
 use crate::{
-    Bytes, Calls, Failed, FileName, Kind, MemSink, MemSource, Op, Ops, Options, OutOfMemory,
-    PlainSink, PlainSource, ReservedList, Row, Rows, Sink, Source, TakeEnd, give_all, ops_weight,
-    same_name, take_all, weight,
+    Bytes, Calls, Failed, FileName, Kind, LONGEST_KEY, LONGEST_VALUE, MemSink, MemSource, Op, Ops,
+    OptionName, Options, OutOfMemory, PlainSink, PlainSource, Range, ReservedList, Row, Rows, Sink,
+    Source, TakeEnd, give_all, ops_weight, same_name, take_all, weight,
 };
 use std::alloc::Global;
 use std::test::Fail;
@@ -73,16 +73,17 @@ fn lists_names_and_weights(rt: HostRuntime) -> Result<(), Fail> {
     assert_eq!(rt; ops_weight(&[]), 0);
     assert!(rt; same_name(FileName::Log(7), FileName::Log(7)));
     assert!(rt; !same_name(FileName::Table(7), FileName::Trash(7)));
-    assert_eq!(rt; Options::standard().write_buffer, 65536);
     Ok(())
 }
 
 /// The weight of an op whose sizes are within the limits, and 0 of another.
 fn weighed(op: &Op) -> u64 {
     match op {
-        Op::Put { key, value } if key.len() > 0 && key.len() <= 1024 && value.len() <= 65536 =>
-            weight(op),
-        Op::Del { key } if key.len() > 0 && key.len() <= 1024 => weight(op),
+        Op::Put { key, value }
+            if key.len() > 0 && key.len() <= LONGEST_KEY && value.len() <= LONGEST_VALUE => weight(
+            op,
+        ),
+        Op::Del { key } if key.len() > 0 && key.len() <= LONGEST_KEY => weight(op),
         _ => 0,
     }
 }
@@ -112,4 +113,31 @@ fn a_reserved_list_takes_what_has_room(rt: HostRuntime) -> Result<(), Fail> {
     assert_eq!(rt; list.as_slice(), [7, 8].as_slice());
     assert_eq!(rt; list.into_sequence().len(), 2);
     Ok(())
+}
+
+/// Whether an option has this name, and takes its value where none was set.
+fn is_named(option: OptionName, name: &[u8]) -> bool {
+    option.name() == name && option.range().contains(option.default())
+}
+
+#[test]
+fn options_have_names_and_ranges(rt: HostRuntime) {
+    assert!(rt; is_named(OptionName::Level0Trigger, b"level0_trigger"));
+    assert_eq!(rt;
+        OptionName::Ratio.range(),
+        Range {
+            least: 0,
+            greatest: 1_000_000
+        }
+    );
+    assert!(rt; !OptionName::Ratio.range().contains(1_000_001));
+}
+
+#[test]
+fn an_option_is_set_by_its_name(rt: HostRuntime) {
+    let mut options = Options::standard();
+    assert_eq!(rt; options.get(OptionName::Chunk), 65536);
+    options.set(OptionName::Paranoid, 0);
+    assert_eq!(rt; options.get(OptionName::Paranoid), 0);
+    assert!(rt; !options.paranoid);
 }

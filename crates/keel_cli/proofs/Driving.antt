@@ -3,15 +3,14 @@ use Rattle.std.specs.Prelude.{min}
 use Rattle.std.proofs.Common.{◌≡◌, ℕ, ◌+◌, true, false, List, [], ◌∷◌, Result, Ok, Err, refl, sym, ap, subst, ◌∙◌, inl, inr}
 use Rattle.keel_base.specs.declared.memory.OutOfMemory.{OutOfMemory}
 use Rattle.keel_base.specs.declared.options.Options.{Options}
+use Rattle.keel_base.specs.declared.option_name.OptionName.{OptionName}
+use Rattle.keel_base.specs.declared.option_name.Range.{Range}
+use Rattle.keel_base.specs.Options.{range_of, IsWithin, SetsOne}
 use Rattle.keel_recovery.specs.Machine.{is_open}
 use Rattle.keel_script.specs.declared.command.Command.{Command}
 use Rattle.keel_script.specs.declared.command.Command.TheVariants.{SetOption, Tick}
-use Rattle.keel_script.specs.declared.option_name.OptionName.{OptionName}
-use Rattle.keel_script.specs.declared.option_name.Range.{Range}
 use Rattle.keel_script.specs.declared.reply.Reply.{Reply}
 use Rattle.keel_script.specs.declared.reply.Reply.TheVariants as reply
-use Rattle.keel_script.specs.Options.{range_of}
-use Rattle.keel_settings.specs.Values.{IsWithin, SetsOne}
 use Rattle.keel_cli.specs.declared.answer.Answer.{Answer}
 use Rattle.keel_cli.specs.declared.driver.Driver.{Driver}
 use Rattle.keel_cli.specs.Cuts.{CarriedOut}

@@ -1,6 +1,7 @@
 -- What every turn of the machine keeps, a run keeps.
 use Rattle.std.proofs.Common.{◌≡◌, ◌∙◌, ℕ, zero, suc, Bool, true, false, Option, None, Some, List, [], ◌∷◌, Err, refl, ap, sym, subst, inl, inr}
 use Rattle.keel_base.specs.declared.op.Batch.{Batch}
+use Rattle.keel_base.specs.declared.option_name.OptionName.{OptionName}
 use Rattle.keel_disk.specs.declared.error.DiskError.TheVariants as disk
 use Rattle.keel_disk.specs.declared.rule.Pick.{Pick}
 use Rattle.keel_machine.specs.declared.answers.Admit.{Admit}
@@ -17,7 +18,6 @@ use Rattle.keel_reading.specs.declared.refusal.OpenRefusal.TheVariants as refusa
 use Rattle.keel_recovery.specs.Machine.{is_open, MayCall}
 use Rattle.keel_script.specs.declared.command.Command.{Command}
 use Rattle.keel_script.specs.declared.command.Command.TheVariants.{SetOption, Open, Put, Del, QueuePut, QueueDel, Write, Drain, Tick, Get, Scan, Files, Crash}
-use Rattle.keel_script.specs.declared.option_name.OptionName.{OptionName}
 use Rattle.keel_script.specs.declared.reply.Reply.{Reply}
 use Rattle.keel_cli.specs.declared.lines.LineStop.{LineStop}
 use Rattle.keel_cli.specs.declared.lines.LineStop.TheVariants.{Refused, Unwritten, NoMemory}

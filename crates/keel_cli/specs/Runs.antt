@@ -2,6 +2,8 @@
 use Rattle.std.specs.Prelude.{◌≡◌, ◌⊎◌, ℕ, ◌+◌, ◌-◌, ◌^◌, min, Bool, true, false, Option, None, Some, List, [], ◌∷◌, ◌++◌, length, map, Result, Ok, Err}
 use Rattle.keel_base.specs.declared.listing.Entry.{Entry}
 use Rattle.keel_base.specs.declared.row.Row.{Row}
+use Rattle.keel_base.specs.declared.option_name.OptionName.{OptionName}
+use Rattle.keel_base.specs.Options.{range_of, IsWithin, SetsOne}
 use Rattle.keel_disk.specs.declared.error.DiskError.{DiskError}
 use Rattle.keel_disk.specs.declared.error.DiskError.TheVariants as disk
 use Rattle.keel_disk.specs.declared.rule.Pick.{Pick}
@@ -17,11 +19,8 @@ use Rattle.keel_machine.specs.Turns.{Turn, Opening, Getting, Scanning, Listing, 
 use Rattle.keel_recovery.specs.Machine.{is_open}
 use Rattle.keel_script.specs.declared.command.Command.{Command}
 use Rattle.keel_script.specs.declared.command.Command.TheVariants.{SetOption, Open, Put, Del, QueuePut, QueueDel, Write, Drain, Tick, Get, Scan, Files, Crash}
-use Rattle.keel_script.specs.declared.option_name.OptionName.{OptionName}
 use Rattle.keel_script.specs.declared.reply.Reply.{Reply}
 use Rattle.keel_script.specs.declared.reply.Reply.TheVariants as reply
-use Rattle.keel_script.specs.Options.{range_of}
-use Rattle.keel_settings.specs.Values.{IsWithin, SetsOne}
 use Rattle.keel_cli.specs.Drains.{DrainRun, DrainCut}
 use Rattle.keel_cli.specs.Puts.{put_batch, del_batch, PutRun, PutCut, QueueRun, QueueCut}
 use Rattle.keel_cli.specs.Writes.{WriteRun, WriteCut}

@@ -2,11 +2,11 @@
 use Rattle.std.specs.Prelude.{◌≡◌, ℕ, None, [], Option}
 use Rattle.keel_base.specs.declared.options.Options.{Options}
 use Rattle.keel_base.specs.Points.{origin}
+use Rattle.keel_base.specs.Options.{AreDefaults}
 use Rattle.keel_disk.specs.Told.{Told}
 use Rattle.keel_disk.specs.Seen.{Seen}
 use Rattle.keel_machine.specs.States.{State, Footing, Known, Unknown, Unopened, new_story}
 use Rattle.keel_recovery.specs.Machine.{RestsIn}
-use Rattle.keel_settings.specs.Values.{AreDefaults}
 
 -- its store as the machine has it, the options for the next opening, and the tick
 pub record Session : Type 0 where

@@ -1,7 +1,7 @@
 // The driver: a store, the options for its next opening, and the tick.
 ghost use Rattle.std.specs.Prelude.{◌≡◌, [], ◌∷◌, IfSome, IfNone};
+ghost use Rattle.keel_base.specs.Options.{AreDefaults};
 ghost use Rattle.keel_script.specs.declared.command.Command.TheVariants as command;
-ghost use Rattle.keel_settings.specs.Values.{AreDefaults};
 ghost use Rattle.keel_recovery.specs.Machine.{IsCovered};
 ghost use Rattle.keel_cli.specs.Driving.{DriverLeads, Drives, StandsAt};
 ghost use Rattle.keel_cli.specs.Runs.{Carries, IsOnStore};
@@ -9,9 +9,9 @@ ghost use Rattle.keel_cli.specs.Sessions.{Session};
 ghost use Rattle.keel_cli.specs.Stores.{Closed};
 
 use crate::{Answer, Store};
-use keel_base::OutOfMemory;
+use keel_base::{OptionName, OutOfMemory};
 use keel_disk::Device;
-use keel_script::{Command, OptionName, Reply};
+use keel_script::{Command, Reply};
 use keel_settings::Settings;
 use std::alloc::Global;
 

@@ -4,9 +4,10 @@ use Rattle.std.specs.Str.{bytes_eq}
 use Rattle.keel_base.specs.declared.failure.Call.{Call}
 use Rattle.keel_base.specs.declared.failure.Fault.{Fault}
 use Rattle.keel_base.specs.declared.failure.Fault.TheVariants.{SpaceLimit}
+use Rattle.keel_base.specs.declared.option_name.OptionName.{OptionName}
+use Rattle.keel_base.specs.Options.{option_name}
 use Rattle.keel_script.specs.declared.command.Command.{Command}
 use Rattle.keel_script.specs.declared.command.Command.TheVariants.{SetOption, Open, Put, Del, QueuePut, QueueDel, Write, Flush, Compact, Delete, Resume, ResumeStep, Drain, Tick, Get, Scan, Error, Space, Files, Levels, Limit, Close, Fail, Capacity, Crash}
-use Rattle.keel_script.specs.declared.option_name.OptionName.{OptionName}
 use Rattle.keel_script.specs.declared.verb.Verb.{Verb}
 use Rattle.keel_script.specs.declared.verb.Verb.TheVariants as v
 use Rattle.keel_script.specs.Grammar.{synced, parts_of, IsAllowed}
@@ -15,7 +16,6 @@ use Rattle.keel_script.specs.Parts.Part.{Word, Number, Text}
 use Rattle.keel_script.specs.Reading.{alone, set_option_at, put_at, del_at, queue_at, queue_put_at, queue_del_at, compact_at, drain_at, tick_at, get_at, scan_at, limit_at, fail_at, capacity_at, crash_at, behind, command_from}
 use Rattle.keel_script.specs.Verbs.{verb_name}
 use Rattle.keel_script.specs.Names.{call_name, fault_name}
-use Rattle.keel_script.specs.Options.{option_name}
 use Rattle.keel_script.proofs.PartLaws.{Words, by_number, by_text, by_option, by_call, by_fault, by_verb, by_word, number_to_read}
 use Rattle.keel_script.proofs.Steps.{end_read, sync_read}
 

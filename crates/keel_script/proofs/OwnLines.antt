@@ -6,14 +6,14 @@ use Rattle.keel_base.specs.declared.failure.Call.{Call}
 use Rattle.keel_base.specs.declared.failure.Call.TheVariants.{Create, Append, Sync, Rename, Remove, Cut, SyncDir, Read}
 use Rattle.keel_base.specs.declared.failure.Fault.{Fault}
 use Rattle.keel_base.specs.declared.failure.Fault.TheVariants.{Plain, NoSpace, SpaceLimit, Fenced, Retryable, DataLoss, Corrupt}
+use Rattle.keel_base.specs.declared.option_name.OptionName.{OptionName}
+use Rattle.keel_base.specs.declared.option_name.OptionName.TheVariants as o
+use Rattle.keel_base.specs.Options.{option_name}
 use Rattle.keel_script.specs.declared.command.Command.{Command}
 use Rattle.keel_script.specs.declared.command.Command.TheVariants.{SetOption, Open, Put, Del, QueuePut, QueueDel, Write, Flush, Compact, Delete, Resume, ResumeStep, Drain, Tick, Get, Scan, Error, Space, Files, Levels, Limit, Close, Fail, Capacity, Crash}
-use Rattle.keel_script.specs.declared.option_name.OptionName.{OptionName}
-use Rattle.keel_script.specs.declared.option_name.OptionName.TheVariants as o
 use Rattle.keel_script.specs.Grammar.{synced, parts_of, IsInGrammar, Says, command_line}
 use Rattle.keel_script.specs.Laws.{IsPrintable}
 use Rattle.keel_script.specs.Names.{call_name, fault_name}
-use Rattle.keel_script.specs.Options.{option_name}
 use Rattle.keel_script.specs.Reading.{command_from, first_by}
 use Rattle.keel_script.specs.Words.{begins_word, onto_first, words_of, IsBlank, IsComment}
 use Rattle.keel_script.proofs.Canonical.{line_spells, spelled_writable}

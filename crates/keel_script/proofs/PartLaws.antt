@@ -4,13 +4,13 @@ use Rattle.std.proofs.lemmas.Bool.{leb-true, le-leb}
 use Rattle.keel_base.specs.declared.failure.Call.{Call}
 use Rattle.keel_base.specs.declared.failure.Fault.{Fault}
 use Rattle.keel_base.specs.declared.failure.Fault.TheVariants.{SpaceLimit}
+use Rattle.keel_base.specs.declared.option_name.OptionName.{OptionName}
+use Rattle.keel_base.specs.declared.option_name.TheConstants.OptionName.{ALL}
+use Rattle.keel_base.specs.Options.{option_name}
 use Rattle.keel_script.specs.declared.names.TheConstants.{CALLS, DEVICE_FAULTS}
-use Rattle.keel_script.specs.declared.option_name.OptionName.{OptionName}
-use Rattle.keel_script.specs.declared.option_name.TheConstants.OptionName.{ALL}
 use Rattle.keel_script.specs.declared.verb.TheConstants.{VERBS}
 use Rattle.keel_script.specs.declared.verb.Verb.{Verb}
 use Rattle.keel_script.specs.Names.{call_name, fault_name}
-use Rattle.keel_script.specs.Options.{option_name}
 use Rattle.keel_script.specs.Parts.{Part, Spell}
 use Rattle.keel_script.specs.Parts.Part.{Word, Number, Text}
 use Rattle.keel_script.specs.Reading.{word_at, first_by, number_to, decimal_from, text_from, option_name_from, call_from, fault_from, verb_from}

@@ -7,14 +7,14 @@ use Rattle.keel_base.specs.declared.failure.Call.{Call}
 use Rattle.keel_base.specs.declared.failure.Call.TheVariants.{Create, Append, Sync, Rename, Remove, Cut, SyncDir, Read}
 use Rattle.keel_base.specs.declared.failure.Fault.{Fault}
 use Rattle.keel_base.specs.declared.failure.Fault.TheVariants.{Plain, NoSpace, SpaceLimit, Fenced, Retryable, DataLoss, Corrupt}
+use Rattle.keel_base.specs.declared.option_name.OptionName.{OptionName}
+use Rattle.keel_base.specs.declared.option_name.OptionName.TheVariants.{Paranoid, Auto, Attempts, Interval, WriteBuffer, MaxImmutables, Level0Trigger, LevelBase, TableSize, Limit, Buffer, Rate, Ratio, Chunk}
+use Rattle.keel_base.specs.Options.{option_name}
 use Rattle.keel_script.specs.declared.names.TheConstants.{DEVICE_FAULTS}
-use Rattle.keel_script.specs.declared.option_name.OptionName.{OptionName}
-use Rattle.keel_script.specs.declared.option_name.OptionName.TheVariants.{Paranoid, Auto, Attempts, Interval, WriteBuffer, MaxImmutables, Level0Trigger, LevelBase, TableSize, Limit, Buffer, Rate, Ratio, Chunk}
 use Rattle.keel_script.specs.declared.verb.Verb.{Verb}
 use Rattle.keel_script.specs.declared.verb.Verb.TheVariants as v
 use Rattle.keel_script.specs.Grammar.{synced}
 use Rattle.keel_script.specs.Names.{call_name, fault_name}
-use Rattle.keel_script.specs.Options.{option_name}
 use Rattle.keel_script.specs.Parts.{Part, Spells, Spell}
 use Rattle.keel_script.specs.Reading.{◌>>=◌, first_by, option_name_from, call_from, fault_from, verb_from, end_at, sync_at}
 use Rattle.keel_script.specs.Verbs.{verb_name}

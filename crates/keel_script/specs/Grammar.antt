@@ -2,10 +2,10 @@
 use Rattle.std.specs.Prelude.{◌≢◌, ℕ, ◌≤◌, Bool, true, false, List, [], ◌∷◌, codes}
 use Rattle.std.specs.List.{AllByRecursion}
 use Rattle.keel_base.specs.declared.failure.Fault.TheVariants.{SpaceLimit}
+use Rattle.keel_base.specs.Options.{option_name}
 use Rattle.keel_script.specs.declared.command.Command.{Command}
 use Rattle.keel_script.specs.declared.command.Command.TheVariants.{SetOption, Open, Put, Del, QueuePut, QueueDel, Write, Flush, Compact, Delete, Resume, ResumeStep, Drain, Tick, Get, Scan, Error, Space, Files, Levels, Limit, Close, Fail, Capacity, Crash}
 use Rattle.keel_script.specs.Names.{fault_name, call_name}
-use Rattle.keel_script.specs.Options.{option_name}
 use Rattle.keel_script.specs.Parts.{Part, IsWritable, Spell, printed_line}
 use Rattle.keel_script.specs.Parts.Part.{Word, Number, Text}
 use Rattle.keel_script.specs.Words.{words_of}

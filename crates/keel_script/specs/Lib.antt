@@ -1,7 +1,6 @@
 pub mod Grammar
 pub mod Laws
 pub mod Names
-pub mod Options
 pub mod Parts
 pub mod Reading
 pub mod Replies

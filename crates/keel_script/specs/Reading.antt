@@ -7,18 +7,18 @@ use Rattle.std.specs.Str.{bytes_eq}
 use Rattle.std.specs.Str.Parse.{digits_value}
 use Rattle.keel_base.specs.declared.failure.Call.{Call}
 use Rattle.keel_base.specs.declared.failure.Fault.{Fault}
+use Rattle.keel_base.specs.declared.option_name.OptionName.{OptionName}
+use Rattle.keel_base.specs.declared.option_name.TheConstants.OptionName.{ALL}
+use Rattle.keel_base.specs.Options.{option_name}
 use Rattle.keel_script.specs.declared.command.Command.{Command}
 use Rattle.keel_script.specs.declared.command.Command.TheVariants as command
 use Rattle.keel_script.specs.declared.command.LineError.{LineError}
 use Rattle.keel_script.specs.declared.command.LineError.TheVariants as error
 use Rattle.keel_script.specs.declared.names.TheConstants.{CALLS, DEVICE_FAULTS}
-use Rattle.keel_script.specs.declared.option_name.OptionName.{OptionName}
-use Rattle.keel_script.specs.declared.option_name.TheConstants.OptionName.{ALL}
 use Rattle.keel_script.specs.declared.verb.TheConstants.{VERBS}
 use Rattle.keel_script.specs.declared.verb.Verb.{Verb}
 use Rattle.keel_script.specs.declared.verb.Verb.TheVariants as verb
 use Rattle.keel_script.specs.Names.{fault_name, call_name}
-use Rattle.keel_script.specs.Options.{option_name}
 use Rattle.keel_script.specs.Texts.{is_plain}
 use Rattle.keel_script.specs.Verbs.{verb_name}
 

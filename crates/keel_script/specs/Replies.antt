@@ -4,10 +4,10 @@ use Rattle.std.specs.Fmt.{decimal}
 use Rattle.std.specs.List.{flat_map}
 use Rattle.keel_base.specs.declared.failure.Failure.{Failure}
 use Rattle.keel_base.specs.Name.{printed}
+use Rattle.keel_base.specs.Options.{option_name}
 use Rattle.keel_script.specs.declared.reply.Reply.{Reply}
 use Rattle.keel_script.specs.declared.reply.Reply.TheVariants.{OptionSet, BadOption, IsOpen, NotOpen, Opened, RefusedDevice, RefusedNoCurrent, RefusedBadCurrent, RefusedDamagedManifest, RefusedMissingTable, RefusedBadTable, RefusedBadLog, RefusedLogGap, PutOk, Failed, Stopped, Booting, BadSizeKey, BadSizeValue, Spent, Full, QueueFull, Waiting, Queued, Idle, Moved, WriteDone, Turned, Cancelled, JobDone, Blocked, NoRoom, Wait, Purged, Trashed, Cut, Removed, DeleteRefused, Nothing, Busy, Beyond, Cleared, Started, JobCleared, NoSpaceYet, OverLimit, GivenUp, Quiet, More, Now, Value, Absent, Row, Rows, ErrorNone, Error, Space, FileLine, Files, ReadFault, BadCheck, BadShape, AbsentTable, Level, Memory, Limit, Closed, Armed, NotSimulated, Capacity, Crashed, NotBuilt}
 use Rattle.keel_script.specs.Names.{fault_name, call_name, reason_name, counter_name, slot_name, grade_number}
-use Rattle.keel_script.specs.Options.{option_name}
 use Rattle.keel_script.specs.Texts.{printed_text}
 
 -- the head, and a space and each of these words

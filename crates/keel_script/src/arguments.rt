@@ -3,11 +3,11 @@ ghost use Rattle.std.specs.Prelude.{◌≡◌, ◌≤◌, IfSome};
 ghost use Rattle.keel_script.specs.Reading.{Gives, Shows, decimal_from, text_from, option_name_from, call_from, fault_from, first_by, number_to, end_at, sync_at};
 ghost use Rattle.keel_script.specs.Words.{words_of};
 
+use crate::LineError;
 use crate::names::{CALLS, DEVICE_FAULTS, call_name, fault_name};
 use crate::text::text_of;
 use crate::words::next_word;
-use crate::{LineError, OptionName};
-use keel_base::{Bytes, Call, Fault};
+use keel_base::{Bytes, Call, Fault, OptionName};
 use keel_name::read_decimal;
 use std::alloc::Global;
 

@@ -1,8 +1,7 @@
 // What a line can say.
 ghost use Rattle.std.specs.Prelude.{◌≡◌};
 
-use crate::OptionName;
-use keel_base::{Bytes, Call, Fault, OutOfMemory};
+use keel_base::{Bytes, Call, Fault, OptionName, OutOfMemory};
 
 /// A command of a workload. Each actor's step is one, so that commands are steps in any order.
 #[derive(Drop)]

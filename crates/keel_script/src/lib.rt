@@ -4,7 +4,6 @@
 //!   the lines that say none and have no answer. The grammar is one table, `parts_of`, of what each command is
 //!   spelled with: words, numbers and texts, in which `%` and two hexadecimal digits stand for a byte.
 //! - `print_reply` gives the line of a reply.
-//! - `OptionName` has the options with their ranges and their values where none was set.
 //! - `laws` has what follows for the language: a line says one command, and each command's own line says it.
 #![tactic(auto)]
 
@@ -14,7 +13,6 @@ mod command;
 pub mod laws;
 mod line;
 mod names;
-mod option_name;
 mod printing;
 mod reading;
 mod reply;
@@ -24,7 +22,6 @@ mod words;
 
 pub use answering::print_reply;
 pub use command::{Command, LineError};
-pub use option_name::{OptionName, Range};
 pub use printing::print_command;
 pub use reading::read_command;
 pub use reply::Reply;

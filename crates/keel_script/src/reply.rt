@@ -1,6 +1,5 @@
 // What a command is answered.
-use crate::OptionName;
-use keel_base::{Bytes, Call, Counter, Failure, Fault, FileName, Grade, SlotName};
+use keel_base::{Bytes, Call, Counter, Failure, Fault, FileName, Grade, OptionName, SlotName};
 
 /// A line of the answer to a command. Lengths and sizes are in bytes, times in ticks of one millisecond.
 #[derive(Drop)]

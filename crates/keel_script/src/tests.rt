@@ -1,4 +1,4 @@
-use crate::{OptionName, Range, is_blank, print_command, read_command};
+use crate::{is_blank, print_command, read_command};
 use keel_base::Bytes;
 use std::alloc::Global;
 use std::test::Fail;
@@ -105,37 +105,4 @@ fn lines_are_refused(rt: HostRuntime) {
 fn blank_lines_say_nothing(rt: HostRuntime) {
     assert!(rt; is_blank(b"") && is_blank(b"   ") && is_blank(b"#open"));
     assert!(rt; !is_blank(b" #") && !is_blank(b"open"));
-}
-
-#[test]
-fn options_have_names_ranges_and_defaults(rt: HostRuntime) {
-    let options: [(OptionName, &[u8], u64, u64, u64); 14] = [
-        (OptionName::Paranoid, b"paranoid", 1, 0, 1),
-        (OptionName::Auto, b"auto", 1, 0, 1),
-        (OptionName::Attempts, b"attempts", 16, 0, 1000000),
-        (OptionName::Interval, b"interval", 1000, 0, 1000000000),
-        (OptionName::WriteBuffer, b"write_buffer", 65536, 1, 67108864),
-        (OptionName::MaxImmutables, b"max_immutables", 2, 1, 16),
-        (OptionName::Level0Trigger, b"level0_trigger", 4, 1, 64),
-        (
-            OptionName::LevelBase,
-            b"level_base",
-            262144,
-            1,
-            1099511627776,
-        ),
-        (OptionName::TableSize, b"table_size", 65536, 1, 67108864),
-        (OptionName::Limit, b"limit", 0, 0, 1152921504606846976),
-        (OptionName::Buffer, b"buffer", 0, 0, 1152921504606846976),
-        (OptionName::Rate, b"rate", 0, 0, 1099511627776),
-        (OptionName::Ratio, b"ratio", 250, 0, 1000000),
-        (OptionName::Chunk, b"chunk", 65536, 0, 1099511627776),
-    ];
-    for (option, name, default, least, greatest) in options {
-        assert_eq!(rt; option.name(), name);
-        assert_eq!(rt; option.default(), default);
-        assert_eq!(rt; option.range(), Range { least, greatest });
-        assert!(rt; option.range().contains(default));
-    }
-    assert!(rt; !OptionName::Ratio.range().contains(1000001));
 }

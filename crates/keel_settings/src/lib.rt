@@ -5,12 +5,9 @@
 #![tactic(auto)]
 
 ghost use Rattle.std.specs.Prelude.{◌≡◌, ◌↔◌, IsOk, IfErr, OnOk, OnErr};
-ghost use Rattle.keel_base.specs.Options.{AreInRange, standard};
-ghost use Rattle.keel_script.specs.Options.{range_of};
-ghost use Rattle.keel_settings.specs.Values.{IsWithin, SetsOne, AreDefaults, with_value};
+ghost use Rattle.keel_base.specs.Options.{AreInRange, AreDefaults, IsWithin, SetsOne, standard, range_of};
 
-use keel_base::Options;
-use keel_script::{OptionName, Range};
+use keel_base::{OptionName, Options, Range};
 use std::marker::Model;
 
 /// What was set, and the default of each option for which nothing was. Contracts see the options.
@@ -52,7 +49,7 @@ impl Settings {
         if !range.contains(value) {
             return Err(range);
         }
-        self.options = changed(self.options, name, value);
+        self.options.set(name, value);
         Ok(())
     }
 
@@ -62,68 +59,6 @@ impl Settings {
         ensures in_range { AreInRange self.now }
     {
         &self.options
-    }
-}
-
-// The options with one of them changed.
-fn changed(old: Options, name: OptionName, value: u64) -> Options
-    requires { IsWithin name value }
-    ensures { result ≡ with_value name value old }
-{
-    match name {
-        OptionName::Paranoid => Options {
-            paranoid: value == 1,
-            ..old
-        },
-        OptionName::Auto => Options {
-            auto: value == 1,
-            ..old
-        },
-        OptionName::Attempts => Options {
-            attempts: value as u32,
-            ..old
-        },
-        OptionName::Interval => Options {
-            interval: value,
-            ..old
-        },
-        OptionName::WriteBuffer => Options {
-            write_buffer: value,
-            ..old
-        },
-        OptionName::MaxImmutables => Options {
-            max_immutables: value as u32,
-            ..old
-        },
-        OptionName::Level0Trigger => Options {
-            level0_trigger: value as u32,
-            ..old
-        },
-        OptionName::LevelBase => Options {
-            level_base: value,
-            ..old
-        },
-        OptionName::TableSize => Options {
-            table_size: value,
-            ..old
-        },
-        OptionName::Limit => Options {
-            limit: value,
-            ..old
-        },
-        OptionName::Buffer => Options {
-            buffer: value,
-            ..old
-        },
-        OptionName::Rate => Options { rate: value, ..old },
-        OptionName::Ratio => Options {
-            ratio: value as u32,
-            ..old
-        },
-        OptionName::Chunk => Options {
-            chunk: value,
-            ..old
-        },
     }
 }
 

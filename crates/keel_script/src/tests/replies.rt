@@ -1,5 +1,7 @@
-use crate::{OptionName, Reply, print_reply};
-use keel_base::{Bytes, Call, Counter, Failure, Fault, FileName, Grade, Reason, SlotName};
+use crate::{Reply, print_reply};
+use keel_base::{
+    Bytes, Call, Counter, Failure, Fault, FileName, Grade, OptionName, Reason, SlotName,
+};
 use std::alloc::Global;
 
 #[test]
