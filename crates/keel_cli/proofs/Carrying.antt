@@ -33,10 +33,9 @@ use Rattle.keel_script.specs.declared.reply.Reply.{Reply}
 use Rattle.keel_script.specs.declared.reply.Reply.TheVariants as reply
 use Rattle.keel_cli.specs.declared.answer.Answer.{Answer}
 use Rattle.keel_cli.specs.declared.answer.Answer.TheVariants as answers
-use Rattle.keel_cli.specs.declared.place.Place.{Place}
-use Rattle.keel_cli.specs.declared.place.Place.TheVariants as place
 use Rattle.keel_cli.specs.Cuts.{StoreCutShort, CarriedOut}
-use Rattle.keel_cli.specs.Places.{IsShut, device_of, Stands, Leads, Leaves, CoreLeads, AreTold}
+use Rattle.keel_cli.specs.Stores.{StoreView, IsShut, Shows, Stands, is_one_open, Leads, Leaves, CoreLeads, AreTold}
+use Rattle.keel_cli.specs.Stores as view
 use Rattle.keel_cli.specs.Replies.{replies_of}
 use Rattle.keel_cli.specs.Runs.{opening_replies, listing_replies, reading_replies, rest_reply, row_replies, CrashRun, Calls, RestsOrCalls, CarriesOnStore, CallsPartly}
 use Rattle.keel_cli.proofs.Tickets.{state_at, stands_at, told_in}
@@ -57,29 +56,53 @@ partly_on_store s new command none cut = inr (inr (none, cut))
 pub open_mode : (core : CoreView) (s : State) → StandsFor core s → is_open s.mode ≡ true
 open_mode core s stands = ap (λ (t : State). is_open t.mode) stands.state_is
 
+-- whether a store is open, as the machine has it
+pub open_as : (store : StoreView) (s : State) → Stands store s → is_open s.mode ≡ is_one_open store
+open_as (view.Closed shows) s stands = stands.shut
+open_as (view.Open core) s stands = open_mode core s stands
+open_as view.Lent s stands = absurd stands
+
 pub open_device : (core : CoreView) (s : State) → StandsFor core s → core.device ≡ s.device
 open_device core s stands = sym (ap (λ (t : State). t.device) stands.state_is)
+
+-- a store shows the device of each state that it stands for, and of no other
+pub shows_own : (store : StoreView) (s : State) → Stands store s → Shows store s.device
+shows_own (view.Closed shows) s stands = sym stands.device
+shows_own (view.Open core) s stands = open_device core s stands
+shows_own view.Lent s stands = stands
+
+pub shows_one : (store : StoreView) (seen other : Seen) → Shows store seen → Shows store other → seen ≡ other
+shows_one (view.Closed shows) seen other is is_other = sym is ∙ is_other
+shows_one (view.Open core) seen other is is_other = sym is ∙ is_other
+shows_one view.Lent seen other is is_other = absurd is
+
+pub shows_as : (store : StoreView) (s : State) (seen : Seen) → Stands store s → Shows store seen → seen ≡ s.device
+shows_as store s seen stands is = shows_one store seen s.device is (shows_own store s stands)
+
+-- a store that isn't open, on a device that shows this
+pub shut_where : (store : StoreView) (s : State) (seen : Seen) → is_one_open store ≡ false → Stands store s → Shows store seen → IsShut seen s
+shut_where (view.Closed shows) s seen is stands shown = record { shut = stands.shut; device = stands.device ∙ shown }
+shut_where (view.Open core) s seen is stands shown = absurd cc
+shut_where view.Lent s seen is stands shown = absurd stands
 
 none_where : (s : State) (b : Bool) (command : Command) → is_open s.mode ≡ b → rest_reply b command ≡ None → rest_reply (is_open s.mode) command ≡ None
 none_where s b command is none = ap (λ (c : Bool). rest_reply c command) is ∙ none
 
 -- ---- reads
 
-module _ (V : Type 0) (shown : V → Seen) where
-  pub read_run : (old new : CoreView) (driver : Place V) (key : List ℕ) (answer : Got) (replies : List Reply) → driver ≡ place.Open new → Turns old (Getting key answer) new
-      → reading_replies answer ≡ Some replies → (s : State) → StandsFor old s → Leads shown driver (CarriesOnStore s (Get key) replies)
-  read_run old new driver key answer replies is turns prints s stands =
-      let gone = turns.goes s stands in
-      let next = after s (Getting key answer) new.device in
-      subst (λ (p : Place V). Leads shown p (CarriesOnStore s (Get key) replies)) (sym is)
-      (next, gone.1, calls_on_store s next (Get key) replies (none_where s true (Get key) (open_mode old s stands) refl) (record { answer = answer; turn = (gone.0, refl); prints = prints }))
+pub read_run : (old new : CoreView) (key : List ℕ) (answer : Got) (replies : List Reply) → Turns old (Getting key answer) new → reading_replies answer ≡ Some replies
+    → (s : State) → StandsFor old s → Leads (view.Open new) (CarriesOnStore s (Get key) replies)
+read_run old new key answer replies turns prints s stands =
+    let gone = turns.goes s stands in
+    let next = after s (Getting key answer) new.device in
+    (next, gone.1, calls_on_store s next (Get key) replies (none_where s true (Get key) (open_mode old s stands) refl) (record { answer = answer; turn = (gone.0, refl); prints = prints }))
 
-  pub read_cut : (old new : CoreView) (key : List ℕ) → Turns old (Getting key got.OutOfMemory) new
-      → (s : State) → StandsFor old s → Leaves shown (place.Open new) (StoreCutShort s (Get key))
-  read_cut old new key turns s stands =
-      let gone = turns.goes s stands in
-      let next = after s (Getting key got.OutOfMemory) new.device in
-      (next, open_device new next gone.1, partly_on_store s next (Get key) (none_where s true (Get key) (open_mode old s stands) refl) (gone.0, refl))
+pub read_cut : (old new : CoreView) (key : List ℕ) → Turns old (Getting key got.OutOfMemory) new
+    → (s : State) → StandsFor old s → Leaves (view.Open new) (StoreCutShort s (Get key))
+read_cut old new key turns s stands =
+    let gone = turns.goes s stands in
+    let next = after s (Getting key got.OutOfMemory) new.device in
+    (next, open_device new next gone.1, partly_on_store s next (Get key) (none_where s true (Get key) (open_mode old s stands) refl) (gone.0, refl))
 
 pub read_told : (old new : CoreView) (key : List ℕ) (answer : Got) → Turns old (Getting key answer) new → AreTold old.outcomes → AreTold new.outcomes
 read_told old new key answer turns told =
@@ -87,20 +110,19 @@ read_told old new key answer turns told =
 
 -- ---- scans
 
-module _ (V : Type 0) (shown : V → Seen) where
-  pub scan_run : (old new : CoreView) (from to : List ℕ) (rows : List Row) → Turns old (Scanning from to (scanned.Rows rows)) new
-      → (s : State) → StandsFor old s → CarriedOut {E = OutOfMemory} shown s (Scan from to) (place.Open new) (Ok (answers.Rows rows))
-  scan_run old new from to rows turns s stands =
-      let gone = turns.goes s stands in
-      let next = after s (Scanning from to (scanned.Rows rows)) new.device in
-      (next, gone.1, calls_on_store s next (Scan from to) (row_replies rows) (none_where s true (Scan from to) (open_mode old s stands) refl) (record { answer = scanned.Rows rows; turn = (gone.0, refl); prints = refl }))
+pub scan_run : (old new : CoreView) (from to : List ℕ) (rows : List Row) → Turns old (Scanning from to (scanned.Rows rows)) new
+    → (s : State) → StandsFor old s → CarriedOut {E = OutOfMemory} s (Scan from to) (view.Open new) (Ok (answers.Rows rows))
+scan_run old new from to rows turns s stands =
+    let gone = turns.goes s stands in
+    let next = after s (Scanning from to (scanned.Rows rows)) new.device in
+    (next, gone.1, calls_on_store s next (Scan from to) (row_replies rows) (none_where s true (Scan from to) (open_mode old s stands) refl) (record { answer = scanned.Rows rows; turn = (gone.0, refl); prints = refl }))
 
-  pub scan_cut : (old new : CoreView) (from to : List ℕ) → Turns old (Scanning from to scanned.OutOfMemory) new
-      → (s : State) → StandsFor old s → Leaves shown (place.Open new) (StoreCutShort s (Scan from to))
-  scan_cut old new from to turns s stands =
-      let gone = turns.goes s stands in
-      let next = after s (Scanning from to scanned.OutOfMemory) new.device in
-      (next, open_device new next gone.1, partly_on_store s next (Scan from to) (none_where s true (Scan from to) (open_mode old s stands) refl) (gone.0, refl))
+pub scan_cut : (old new : CoreView) (from to : List ℕ) → Turns old (Scanning from to scanned.OutOfMemory) new
+    → (s : State) → StandsFor old s → Leaves (view.Open new) (StoreCutShort s (Scan from to))
+scan_cut old new from to turns s stands =
+    let gone = turns.goes s stands in
+    let next = after s (Scanning from to scanned.OutOfMemory) new.device in
+    (next, open_device new next gone.1, partly_on_store s next (Scan from to) (none_where s true (Scan from to) (open_mode old s stands) refl) (gone.0, refl))
 
 pub scan_told : (old new : CoreView) (from to : List ℕ) (answer : Scanned) → Turns old (Scanning from to answer) new → AreTold old.outcomes → AreTold new.outcomes
 scan_told old new from to answer turns told =
@@ -111,22 +133,18 @@ scan_told old new from to answer turns told =
 no_err : {P : Type 0} (x : Answer) → IsErr (let r : Result Answer OutOfMemory = Ok x in r) → P
 no_err x h = absurd cc
 
-module _ (V : Type 0) (shown : V → Seen) (s : State) (command : Command) where
+module _ (s : State) (command : Command) where
   pub answered : (new : CoreView) (r : Result Reply OutOfMemory) (a : Result Answer OutOfMemory) → IfOk r (λ x. a ≡ Ok (answers.One x)) → (IsErr r → IsErr a)
       → IfOk r (λ x. CoreLeads new (CarriesOnStore s command (x ∷ []))) → OnErr r (CoreLeads new (StoreCutShort s command))
-      → CarriedOut shown s command (place.Open new) a
-  answered new (Ok x) a ok err carried cut = subst (CarriedOut shown s command (place.Open new)) (sym ok) carried
+      → CarriedOut s command (view.Open new) a
+  answered new (Ok x) a ok err carried cut = subst (CarriedOut s command (view.Open new)) (sym ok) carried
   answered new (Err e) (Ok y) ok err carried cut = no_err y (err refl)
   answered new (Err e) (Err f) ok err carried cut = (cut.0, open_device new cut.0 cut.1, cut.2)
 
   -- a command that is answered without a call
-  pub rested_open : (core : CoreView) (reply_ : Reply) → Some reply_ ≡ rest_reply true command → StandsFor core s
-      → CarriedOut {E = OutOfMemory} shown s command (place.Open core) (Ok (answers.One reply_))
-  rested_open core reply_ rests stands = (s, stands, rests_on_store s command reply_ true (open_mode core s stands) rests)
-
-  pub rested_closed : (device : V) (reply_ : Reply) → Some reply_ ≡ rest_reply false command → IsShut (shown device) s
-      → CarriedOut {E = OutOfMemory} shown s command (place.Closed device) (Ok (answers.One reply_))
-  rested_closed device reply_ rests shut = (s, shut, rests_on_store s command reply_ false shut.shut rests)
+  pub rested : (store : StoreView) (reply_ : Reply) → Some reply_ ≡ rest_reply (is_one_open store) command → Stands store s
+      → CarriedOut {E = OutOfMemory} s command store (Ok (answers.One reply_))
+  rested store reply_ rests stands = (s, stands, rests_on_store s command reply_ (is_one_open store) (open_as store s stands) rests)
 
 -- the same of a step of a core
 map_ok : {P Q : Reply → Type 0} (r : Result Reply OutOfMemory) → ((x : Reply) → P x → Q x) → IfOk r P → IfOk r Q
@@ -137,18 +155,18 @@ map_err : {P Q : Type 0} (r : Result Reply OutOfMemory) → (P → Q) → OnErr 
 map_err (Ok x) f h = tt
 map_err (Err e) f h = f h
 
-module _ (V : Type 0) (shown : V → Seen) (s : State) (command : Command) (old new : CoreView) (r : Result Reply OutOfMemory) (a : Result Answer OutOfMemory) where
+module _ (s : State) (command : Command) (old new : CoreView) (r : Result Reply OutOfMemory) (a : Result Answer OutOfMemory) where
   pub called : (run : List Reply → State → Type 0) (partly : State → Type 0) → StandsFor old s → rest_reply true command ≡ None
       → ((replies : List Reply) (next : State) → run replies next → Calls s command replies next)
       → ((next : State) → partly next → (next ≡ s) ⊎ CallsPartly s command next)
       → IfOk r (λ x. a ≡ Ok (answers.One x)) → (IsErr r → IsErr a)
       → IfOk r (λ x. CoreLeads new (run (x ∷ []))) → OnErr r (CoreLeads new partly)
-      → CarriedOut shown s command (place.Open new) a
+      → CarriedOut s command (view.Open new) a
   called run partly stands none calls cuts ok err carried cut =
       let at = none_where s true command (open_mode old s stands) none in
       let cut_short : (next : State) → (next ≡ s) ⊎ CallsPartly s command next → StoreCutShort s command next =
       λ next is. elim is [ inl same ↦ inl same | inr part ↦ partly_on_store s next command at part ] in
-      answered V shown s command new r a ok err
+      answered s command new r a ok err
       (map_ok r (λ x leads. (leads.0, leads.1, calls_on_store s leads.0 command (x ∷ []) at (calls (x ∷ []) leads.0 leads.2))) carried)
       (map_err r (λ leads. (leads.0, leads.1, cut_short leads.0 (cuts leads.0 leads.2))) cut)
 
@@ -173,9 +191,9 @@ expected s covered =
       | false ↦ λ begins. tt
     ] refl
 
-module _ (V : Type 0) (shown : V → Seen) (s : State) where
+module _ (s : State) where
   pub opened_run : (core : CoreView) (shows : Seen) (seq : ℕ) → IsShut shows s → Opens s core → seq ≡ (point_in core).seq
-      → CarriedOut {E = OutOfMemory} shown s Open (place.Open core) (Ok (answers.One (reply.Opened seq)))
+      → CarriedOut {E = OutOfMemory} s Open (view.Open core) (Ok (answers.One (reply.Opened seq)))
   opened_run core shows seq shut opens is =
       let next = after s (Opening (Ok opens.found)) core.device in
       let run = calls_on_store s next Open (reply.Opened opens.found.last_seq ∷ []) (none_where s false Open shut.shut refl)
@@ -183,19 +201,19 @@ module _ (V : Type 0) (shown : V → Seen) (s : State) where
       (next, opens.stands, subst (λ n. CarriesOnStore s Open (reply.Opened n ∷ []) next) (opens.last_is ∙ sym is) run)
 
   -- the state behind a refusal is as before, but for the device
-  pub refused_run : (device : V) (before : Seen) (refused : OpenRefusal) (r : Result Reply OutOfMemory) (a : Result Answer OutOfMemory) → IsShut before s
-      → Answers s (Opening (Err refused)) (shown device)
+  pub refused_run : (behind before : Seen) (refused : OpenRefusal) (r : Result Reply OutOfMemory) (a : Result Answer OutOfMemory) → IsShut before s
+      → Answers s (Opening (Err refused)) behind
       → IfOk r (λ x. opening_replies (Err refused) ≡ Some (x ∷ [])) → (IsErr r → refused ≡ refusal.OutOfMemory)
       → IfOk r (λ x. a ≡ Ok (answers.One x)) → (IsErr r → IsErr a)
-      → CarriedOut shown s Open (place.Closed device) a
-  refused_run device before refused (Ok x) a shut answers_ printed cut ok err =
-      let next = with_device (shown device) s in
+      → CarriedOut s Open (view.Closed behind) a
+  refused_run behind before refused (Ok x) a shut answers_ printed cut ok err =
+      let next = with_device behind s in
       let run = calls_on_store s next Open (x ∷ []) (none_where s false Open shut.shut refl) (record { answer = Err refused; turn = (answers_, refl); prints = printed }) in
-      subst (CarriedOut shown s Open (place.Closed device)) (sym ok) (next, record { shut = shut.shut; device = refl }, run)
-  refused_run device before refused (Err e) (Ok y) shut answers_ printed cut ok err = no_err y (err refl)
-  refused_run device before refused (Err e) (Err f) shut answers_ printed cut ok err =
-      let next = with_device (shown device) s in
-      let want = subst (λ (o : OpenRefusal). Answers s (Opening (Err o)) (shown device)) (cut refl) answers_ in
+      subst (CarriedOut s Open (view.Closed behind)) (sym ok) (next, record { shut = shut.shut; device = refl }, run)
+  refused_run behind before refused (Err e) (Ok y) shut answers_ printed cut ok err = no_err y (err refl)
+  refused_run behind before refused (Err e) (Err f) shut answers_ printed cut ok err =
+      let next = with_device behind s in
+      let want = subst (λ (o : OpenRefusal). Answers s (Opening (Err o)) behind) (cut refl) answers_ in
       (next, refl, partly_on_store s next Open (none_where s false Open shut.shut refl) (want, refl))
 
 pub opened_told : (core : CoreView) (s : State) → Opens s core → AreTold core.outcomes
@@ -207,14 +225,14 @@ none_of_list : (is_one_open : Bool) → rest_reply is_one_open Files ≡ None
 none_of_list true = refl
 none_of_list false = refl
 
-module _ (V : Type 0) (shown : V → Seen) (s next : State) where
-  pub listed : (driver : Place V) (is_one_open : Bool) (answer : Result (List Entry) DiskError) (a : Result Answer OutOfMemory) → is_open s.mode ≡ is_one_open
-      → Stands shown driver next → device_of shown driver ≡ next.device → Turn s (Listing answer) next
+module _ (s next : State) where
+  pub listed : (store : StoreView) (is_one_open : Bool) (answer : Result (List Entry) DiskError) (a : Result Answer OutOfMemory) → is_open s.mode ≡ is_one_open
+      → Stands store next → Shows store next.device → Turn s (Listing answer) next
       → IfOk a (λ x. listing_replies answer ≡ Some (replies_of x)) → (IsErr a → answer ≡ Err disk.OutOfMemory)
-      → CarriedOut shown s Files driver a
-  listed driver is_one_open answer (Ok x) is stands device turn printed cut =
+      → CarriedOut s Files store a
+  listed store is_one_open answer (Ok x) is stands device turn printed cut =
       (next, stands, calls_on_store s next Files (replies_of x) (none_where s is_one_open Files is (none_of_list is_one_open)) (record { answer = answer; turn = turn; prints = printed }))
-  listed driver is_one_open answer (Err e) is stands device turn printed cut =
+  listed store is_one_open answer (Err e) is stands device turn printed cut =
       (next, device, partly_on_store s next Files (none_where s is_one_open Files is (none_of_list is_one_open)) (subst (λ (o : Result (List Entry) DiskError). Turn s (Listing o) next) (cut refl) turn))
 
 pub list_told : (old new : CoreView) (answer : Result (List Entry) DiskError) → Turns old (Listing answer) new → AreTold old.outcomes → AreTold new.outcomes
@@ -232,7 +250,7 @@ shut_behind s (Some count) = shut_by s.mode
     shut_by Closed = refl
     shut_by Opened = refl
 
-module _ (V : Type 0) (shown : V → Seen) (s : State) (dirops keep garbage seed : ℕ) where
+module _ (s : State) (dirops keep garbage seed : ℕ) where
   abbrev crash : Command
   crash = Crash dirops keep garbage seed
 
@@ -246,29 +264,24 @@ module _ (V : Type 0) (shown : V → Seen) (s : State) (dirops keep garbage seed
       by true = refl
       by false = refl
 
-  pub crashed : (device : V) → IsCovered s → Drops s picked (shown device)
-      → CarriedOut {E = OutOfMemory} shown s crash (place.Closed device) (Ok (answers.One reply.Crashed))
-  crashed device covered drops =
-      let left = crash_turns s picked (shown device) covered drops in
-      let next = after s (Crashing picked left.0) (shown device) in
+  pub crashed : (behind : Seen) → IsCovered s → Drops s picked behind
+      → CarriedOut {E = OutOfMemory} s crash (view.Closed behind) (Ok (answers.One reply.Crashed))
+  crashed behind covered drops =
+      let left = crash_turns s picked behind covered drops in
+      let next = after s (Crashing picked left.0) behind in
       let run : Calls s crash (reply.Crashed ∷ []) next = subst (λ b. CrashRun b s picked (reply.Crashed ∷ []) next) (sym drops.simulated) (left.0, (left.1, refl), refl) in
       (next, record { shut = shut_behind s left.0; device = refl }, calls_on_store s next crash (reply.Crashed ∷ []) none_of_crash run)
 
-  pub crash_cut : (device : V) (e : OutOfMemory) → shown device ≡ s.device → CarriedOut shown s crash (place.Closed device) (Err e)
-  crash_cut device e is = (s, is, inl refl)
+  pub crash_cut : (behind : Seen) (e : OutOfMemory) → behind ≡ s.device → CarriedOut s crash (view.Closed behind) (Err e)
+  crash_cut behind e is = (s, is, inl refl)
 
   not_crashed : s.device.simulated ≡ false → CarriesOnStore s crash (reply.NotSimulated ∷ []) s
   not_crashed is =
       let run : Calls s crash (reply.NotSimulated ∷ []) s = subst (λ b. CrashRun b s picked (reply.NotSimulated ∷ []) s) (sym is) (record { same = refl; prints = refl }) in
       calls_on_store s s crash (reply.NotSimulated ∷ []) none_of_crash run
 
-  pub not_crashed_open : (core : CoreView) → StandsFor core s → s.device.simulated ≡ false
-      → CarriedOut {E = OutOfMemory} shown s crash (place.Open core) (Ok (answers.One reply.NotSimulated))
-  not_crashed_open core stands is = (s, stands, not_crashed is)
-
-  pub not_crashed_closed : (device : V) → IsShut (shown device) s → s.device.simulated ≡ false
-      → CarriedOut {E = OutOfMemory} shown s crash (place.Closed device) (Ok (answers.One reply.NotSimulated))
-  not_crashed_closed device shut is = (s, shut, not_crashed is)
+  pub not_crashed_on : (store : StoreView) → Stands store s → s.device.simulated ≡ false → CarriedOut {E = OutOfMemory} s crash store (Ok (answers.One reply.NotSimulated))
+  not_crashed_on store stands is = (s, stands, not_crashed is)
 
 -- ---- what a device that was called shows
 

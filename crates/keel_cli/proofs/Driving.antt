@@ -6,8 +6,6 @@ use Rattle.keel_base.specs.declared.options.Options.{Options}
 use Rattle.keel_base.specs.declared.option_name.OptionName.{OptionName}
 use Rattle.keel_base.specs.declared.option_name.Range.{Range}
 use Rattle.keel_base.specs.Options.{range_of, IsWithin, SetsOne}
-use Rattle.keel_disk.specs.Seen.{Seen}
-use Rattle.keel_machine.specs.States.{State}
 use Rattle.keel_recovery.specs.Machine.{is_open}
 use Rattle.keel_script.specs.declared.command.Command.{Command}
 use Rattle.keel_script.specs.declared.command.Command.TheVariants.{SetOption, Tick}
@@ -15,29 +13,23 @@ use Rattle.keel_script.specs.declared.reply.Reply.{Reply}
 use Rattle.keel_script.specs.declared.reply.Reply.TheVariants as reply
 use Rattle.keel_cli.specs.declared.answer.Answer.{Answer}
 use Rattle.keel_cli.specs.declared.driver.Driver.{Driver}
-use Rattle.keel_cli.specs.declared.place.Place.{Place}
-use Rattle.keel_cli.specs.declared.place.Place.TheVariants as place
 use Rattle.keel_cli.specs.Cuts.{CarriedOut}
 use Rattle.keel_cli.specs.Driving.{StandsAt, DriverLeads, Drives}
-use Rattle.keel_cli.specs.Places.{Stands, is_one_open}
+use Rattle.keel_cli.specs.Stores.{StoreView, is_one_open}
 use Rattle.keel_cli.specs.Replies.{replies_of}
 use Rattle.keel_cli.specs.Runs.{last_tick, SetRun, StoreRun, IsOnStore, Carries}
 use Rattle.keel_cli.specs.Sessions.{Session, with_store}
-use Rattle.keel_cli.proofs.Carrying.{open_mode}
+use Rattle.keel_cli.proofs.Carrying.{open_as}
 
-module _ (V : Type 0) (shown : V → Seen) where
-  open_as : (driver : Place V) (s : State) → Stands shown driver s → is_open s.mode ≡ is_one_open driver
-  open_as (place.Closed device) s stands = stands.shut
-  open_as (place.Open core) s stands = open_mode core s stands
-
-  abbrev with_values : Place V → Options → ℕ → Driver V
-  with_values driver settings tick = record { place = driver; settings = settings; tick = tick }
+module _ (V : Type 0) where
+  abbrev with_values : StoreView → Options → ℕ → Driver V
+  with_values store settings tick = record { store = store; settings = settings; tick = tick }
 
   -- ---- the tick
 
-  pub passed : (driver : Place V) (settings : Options) (tick ticks later : ℕ) (session : Session) → StandsAt shown (with_values driver settings tick) session
-      → later ≡ min (tick + ticks) last_tick → DriverLeads shown (with_values driver settings later) (Carries session (Tick ticks) (reply.Now later ∷ []))
-  passed driver settings tick ticks later session stands is =
+  pub passed : (store : StoreView) (settings : Options) (tick ticks later : ℕ) (session : Session) → StandsAt (with_values store settings tick) session
+      → later ≡ min (tick + ticks) last_tick → DriverLeads (with_values store settings later) (Carries session (Tick ticks) (reply.Now later ∷ []))
+  passed store settings tick ticks later session stands is =
       let now = min (session.tick + ticks) last_tick in
       let same : now ≡ later = ap (λ n. min (n + ticks) last_tick) stands.tick ∙ sym is in (
         record session { tick = now },
@@ -47,17 +39,17 @@ module _ (V : Type 0) (shown : V → Seen) where
 
   -- ---- options
 
-  pub kept_open : (driver : Driver V) (name : OptionName) (value : ℕ) (session : Session) → StandsAt shown driver session → true ≡ is_one_open driver.place
-      → DriverLeads shown driver (Carries session (SetOption name value) (reply.IsOpen ∷ []))
+  pub kept_open : (driver : Driver V) (name : OptionName) (value : ℕ) (session : Session) → StandsAt driver session → true ≡ is_one_open driver.store
+      → DriverLeads driver (Carries session (SetOption name value) (reply.IsOpen ∷ []))
   kept_open driver name value session stands is =
-      let opened : true ≡ is_open session.store.mode = is ∙ sym (open_as driver.place session.store stands.store) in
+      let opened : true ≡ is_open session.store.mode = is ∙ sym (open_as driver.store session.store stands.store) in
       (session, stands, subst (λ b. SetRun b session name value (reply.IsOpen ∷ []) session) opened (record { same = refl; prints = refl }))
 
-  pub set_to : (driver : Place V) (old new : Options) (tick value : ℕ) (name : OptionName) (session : Session) → StandsAt shown (with_values driver old tick) session
-      → false ≡ is_one_open driver → IsWithin name value → SetsOne name value old new
-      → DriverLeads shown (with_values driver new tick) (Carries session (SetOption name value) (reply.OptionSet name value ∷ []))
-  set_to driver old new tick value name session stands is within sets =
-      let shut : false ≡ is_open session.store.mode = is ∙ sym (open_as driver session.store stands.store) in
+  pub set_to : (store : StoreView) (old new : Options) (tick value : ℕ) (name : OptionName) (session : Session) → StandsAt (with_values store old tick) session
+      → false ≡ is_one_open store → IsWithin name value → SetsOne name value old new
+      → DriverLeads (with_values store new tick) (Carries session (SetOption name value) (reply.OptionSet name value ∷ []))
+  set_to store old new tick value name session stands is within sets =
+      let shut : false ≡ is_open session.store.mode = is ∙ sym (open_as store session.store stands.store) in
       let next : Session = record session { options = new } in
       let sets_one : SetsOne name value session.options new = subst (λ (o : Options). SetsOne name value o new) (sym stands.options) sets in (
         next,
@@ -66,11 +58,11 @@ module _ (V : Type 0) (shown : V → Seen) where
             (inl (record { within = within; sets = sets_one; rest = refl; prints = refl })),
       )
 
-  pub out_of_range : (driver : Place V) (old new : Options) (tick value : ℕ) (name : OptionName) (range : Range) (session : Session) → StandsAt shown (with_values driver old tick) session
-      → false ≡ is_one_open driver → ¬ IsWithin name value → new ≡ old → range ≡ range_of name
-      → DriverLeads shown (with_values driver new tick) (Carries session (SetOption name value) (reply.BadOption name range.least range.greatest ∷ []))
-  out_of_range driver old new tick value name range session stands is out same range_is =
-      let shut : false ≡ is_open session.store.mode = is ∙ sym (open_as driver session.store stands.store) in (
+  pub out_of_range : (store : StoreView) (old new : Options) (tick value : ℕ) (name : OptionName) (range : Range) (session : Session) → StandsAt (with_values store old tick) session
+      → false ≡ is_one_open store → ¬ IsWithin name value → new ≡ old → range ≡ range_of name
+      → DriverLeads (with_values store new tick) (Carries session (SetOption name value) (reply.BadOption name range.least range.greatest ∷ []))
+  out_of_range store old new tick value name range session stands is out same range_is =
+      let shut : false ≡ is_open session.store.mode = is ∙ sym (open_as store session.store stands.store) in (
         session,
         record { store = stands.store; options = stands.options ∙ sym same; tick = stands.tick },
         subst (λ b. SetRun b session name value (reply.BadOption name range.least range.greatest ∷ []) session) shut
@@ -84,9 +76,9 @@ module _ (V : Type 0) (shown : V → Seen) where
   on_store (Tick ticks) old new replies is run = absurd is
   on_store command old new replies is run = run
 
-  pub drives : (old : Driver V) (driver : Place V) (answer : Result Answer OutOfMemory) (command : Command) (session : Session) → StandsAt shown old session → IsOnStore command
-      → CarriedOut shown session.store command driver answer → Drives shown session command (with_values driver old.settings old.tick) answer
-  drives old driver (Ok answer) command session stands is run =
+  pub drives : (old : Driver V) (store : StoreView) (answer : Result Answer OutOfMemory) (command : Command) (session : Session) → StandsAt old session → IsOnStore command
+      → CarriedOut session.store command store answer → Drives session command (with_values store old.settings old.tick) answer
+  drives old store (Ok answer) command session stands is run =
       let next = with_store run.0 session in
       (next, record { store = run.1; options = stands.options; tick = stands.tick }, on_store command session next (replies_of answer) is (record { carries = run.2; rest = refl }))
-  drives old driver (Err e) command session stands is run = (with_store run.0 session, run.1, inl (record { cut = run.2; rest = refl }))
+  drives old store (Err e) command session stands is run = (with_store run.0 session, run.1, inl (record { cut = run.2; rest = refl }))

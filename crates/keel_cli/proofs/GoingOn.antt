@@ -1,5 +1,5 @@
 -- Runs go on.
-use Rattle.std.proofs.Common.{◌≡◌, ℕ, Option, None, Some, List, [], ◌∷◌, ◌++◌, ap, refl, sym, ◌∙◌, append_assoc, append-nil, inr, length, ◌≤◌}
+use Rattle.std.proofs.Common.{◌≡◌, ℕ, Option, None, Some, List, [], ◌∷◌, ◌++◌, Result, Ok, Err, ap, refl, sym, ◌∙◌, append_assoc, append-nil, inr, length, ◌≤◌}
 use Rattle.std.proofs.KnownBytes.{Appends-trans}
 use Rattle.std.specs.Io.KnownBytes.{Appends}
 use Rattle.keel_script.specs.declared.command.Command.{Command}
@@ -54,18 +54,18 @@ Progress-append old mid new held between holds lines more first second = record 
 }
 
 -- a line that says a command is carried out as the command is
-pub LineEnds-from_command : (stop : Option LineStop) (old new : Session) (held holds : Option (List ℕ)) (line : List ℕ) (command : Command)
-    → length line ≤ longest_line → script.Says line command → CommandEnds stop old held command new holds → LineEnds stop old held line new holds
-LineEnds-from_command None old new held holds line command short says ends = record {
+pub LineEnds-from_command : {Done : Type 0} (ended : Result Done LineStop) (old new : Session) (held holds : Option (List ℕ)) (line : List ℕ) (command : Command)
+    → length line ≤ longest_line → script.Says line command → CommandEnds ended old held command new holds → LineEnds ended old held line new holds
+LineEnds-from_command (Ok done) old new held holds line command short says ends = record {
   commands = command ∷ [];
   replies = ends.replies;
   read = (command ∷ [], [], record { short = short; says = says }, refl, refl);
   run = (new, ends.replies, [], ends.carries, (refl, refl), sym (append-nil ends.replies));
   written = ends.written;
 }
-LineEnds-from_command (Some Unwritten) old new held holds line command short says ends = (command, record { short = short; says = says }, ends)
-LineEnds-from_command (Some NoMemory) old new held holds line command short says ends = (inr (command, record { short = short; says = says }, ends.0), ends.1)
-LineEnds-from_command (Some Refused) old new held holds line command short says ends = absurd ends
+LineEnds-from_command (Err Unwritten) old new held holds line command short says ends = (command, record { short = short; says = says }, ends)
+LineEnds-from_command (Err NoMemory) old new held holds line command short says ends = (inr (command, record { short = short; says = says }, ends.0), ends.1)
+LineEnds-from_command (Err Refused) old new held holds line command short says ends = absurd ends
 
 pub Appends-none : (held : Option (List ℕ)) → Appends held held []
 Appends-none None = tt

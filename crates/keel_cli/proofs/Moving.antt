@@ -13,7 +13,7 @@ use Rattle.keel_script.specs.declared.reply.Reply.TheVariants.{Quiet, More}
 use Rattle.keel_cli.specs.Writes.{WriteRun, WriteCut, step_replies}
 use Rattle.std.proofs.Common.{[], ◌∷◌}
 use Rattle.keel_cli.specs.Drains.{IsRest, IsMove, Moves, DrainRun, DrainCut}
-use Rattle.keel_cli.specs.Places.{AreTold, CoreLeads}
+use Rattle.keel_cli.specs.Stores.{AreTold, CoreLeads}
 use Rattle.keel_cli.proofs.Tickets.{state_at, stands_at, told_in, write_told}
 
 -- so many moves were made since the first core

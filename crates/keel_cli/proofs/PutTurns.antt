@@ -19,7 +19,7 @@ use Rattle.keel_machine.specs.Writing.{rest_in_group}
 use Rattle.keel_core.specs.Views.{CoreView, StandsFor, Turns}
 use Rattle.keel_script.specs.declared.reply.Reply.{Reply}
 use Rattle.keel_script.specs.declared.reply.Reply.TheVariants as reply
-use Rattle.keel_cli.specs.Places.{AreTold, CoreLeads}
+use Rattle.keel_cli.specs.Stores.{AreTold, CoreLeads}
 use Rattle.keel_cli.specs.Puts.{Queues, PutRun, PutCut, QueueRun, QueueCut, refusal_replies, outcome_replies}
 use Rattle.keel_cli.proofs.Sizes.{one_op_fits}
 use Rattle.keel_cli.proofs.Tickets.{KnownIn, state_at, stands_at, told_in, told_filter, fine_in, queued_fine, write_fine, Known, told_known, waits_known}

@@ -1,11 +1,11 @@
 -- How far a run over lines has come, on each footing.
-use Rattle.std.proofs.Common.{◌≡◌, ℕ, ◌+◌, Option, Some, None, List, [], ◌∷◌, ◌++◌, length, refl}
+use Rattle.std.proofs.Common.{◌≡◌, ℕ, ◌+◌, Option, None, List, [], ◌∷◌, ◌++◌, length, refl}
 use Rattle.keel_disk.specs.Seen.{Seen}
 use Rattle.keel_machine.specs.States.{Footing}
 use Rattle.keel_recovery.specs.Machine.{IsCovered}
 use Rattle.keel_recovery.proofs.Machine.{turn_keeps}
 use Rattle.keel_cli.specs.declared.lines.LineStop.{LineStop}
-use Rattle.keel_cli.specs.Ends.{Progress, LineEnds, LinesRun, StopsAt, stop_at}
+use Rattle.keel_cli.specs.Ends.{Progress, Stops, LinesRun, StopsAt, stop_at}
 use Rattle.keel_cli.specs.Sessions.{Session, Begins, MayBegin}
 use Rattle.keel_cli.proofs.GoingOn.{Appends-none, Progress-append}
 use Rattle.keel_cli.proofs.Keeping.{progressed}
@@ -28,7 +28,7 @@ module _ (footing : Footing) (handed_in : Seen) (held : Option (List ℕ)) where
   }
 
   pub run_goes_on : (lines : List (List ℕ)) (line : List ℕ) (between holds : Option (List ℕ)) (now new : Session) → RunsSoFar footing handed_in held lines between now
-      → LineEnds None now between line new holds → RunsSoFar footing handed_in held (lines ++ line ∷ []) holds new
+      → Progress now between (line ∷ []) new holds → RunsSoFar footing handed_in held (lines ++ line ∷ []) holds new
   run_goes_on lines line between holds now new runs ends = record {
     first = runs.first;
     begins = runs.begins;
@@ -39,7 +39,7 @@ module _ (footing : Footing) (handed_in : Seen) (held : Option (List ℕ)) where
   -- the run ends on this device, behind the lines or at a stop at one more
   module _ (handed_back : Seen) (may : MayBegin footing handed_in.told) where
     pub run_stops : (lines : List (List ℕ)) (line : List ℕ) (number : ℕ) (between holds : Option (List ℕ)) (now new : Session) → handed_back ≡ new.store.device → number ≡ length lines + 1
-        → (stop : LineStop) → RunsSoFar footing handed_in held lines between now → LineEnds (Some stop) now between line new holds
+        → (stop : LineStop) → RunsSoFar footing handed_in held lines between now → Stops stop now between line new holds
         → LinesRun (stop_at stop number) footing handed_in held (lines ++ line ∷ []) handed_back holds
     run_stops lines line number between holds now new device number_is stop runs ends =
         let stops : StopsAt stop runs.first held (lines ++ line ∷ []) number new holds = record {

@@ -18,7 +18,7 @@ use Rattle.keel_machine.specs.Writing.{ready, started_or, group_bytes}
 use Rattle.keel_machine.specs.WritingAfter.{done_each, seq_behind, file_drawn, own_log, log_longer, handed_over, goes_on, act_done, act_failed, first_done, first_failed, group_done, group_failed, call_done, call_failed, queue_turned, write_after}
 use Rattle.keel_core.specs.Trails.{TrailShown, base_of}
 use Rattle.keel_core.specs.Views.{CoreView, StandsFor, state_of}
-use Rattle.keel_cli.specs.Places.{IsTold, AreTold}
+use Rattle.keel_cli.specs.Stores.{IsTold, AreTold}
 
 -- ---- a state that the core stands for
 

@@ -1,15 +1,13 @@
 -- Where memory ended at a command, and what a command that was carried out leaves.
 use Rattle.std.specs.Prelude.{◌≡◌, ◌⊎◌, List, Result, Ok, Err}
-use Rattle.keel_disk.specs.Seen.{Seen}
 use Rattle.keel_machine.specs.States.{State}
 use Rattle.keel_script.specs.declared.command.Command.{Command}
 use Rattle.keel_script.specs.declared.reply.Reply.{Reply}
 use Rattle.keel_cli.specs.declared.answer.Answer.{Answer}
-use Rattle.keel_cli.specs.declared.place.Place.{Place}
-use Rattle.keel_cli.specs.Places.{Leads, Leaves}
 use Rattle.keel_cli.specs.Replies.{replies_of}
 use Rattle.keel_cli.specs.Runs.{CarriesOnStore, Partly, Carries}
 use Rattle.keel_cli.specs.Sessions.{Session, with_store}
+use Rattle.keel_cli.specs.Stores.{StoreView, Leads, Leaves}
 
 -- Memory ended before the command, at a call of it, or behind it where its replies were to be printed.
 abbrev pub StoreCutShort : State → Command → State → Type 0
@@ -24,6 +22,6 @@ abbrev pub CutShort : Session → Command → Session → Type 0
 CutShort old command new = StoreCut old command new ⊎ ((replies : List Reply) × Carries old command replies new)
 
 -- A command was carried out on a store in this state, or memory ended at it.
-abbrev pub CarriedOut : {V E : Type 0} → (V → Seen) → State → Command → Place V → Result Answer E → Type 0
-CarriedOut shown s command place (Ok answer) = Leads shown place (CarriesOnStore s command (replies_of answer))
-CarriedOut shown s command place (Err e) = Leaves shown place (StoreCutShort s command)
+abbrev pub CarriedOut : {E : Type 0} → State → Command → StoreView → Result Answer E → Type 0
+CarriedOut s command store (Ok answer) = Leads store (CarriesOnStore s command (replies_of answer))
+CarriedOut s command store (Err e) = Leaves store (StoreCutShort s command)

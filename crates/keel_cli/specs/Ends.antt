@@ -1,5 +1,5 @@
 -- How a run over a workload may end, and what it then has done.
-use Rattle.std.specs.Prelude.{◌≡◌, ℕ, ◌+◌, ◌⊎◌, Option, None, Some, List, [], ◌∷◌, ◌++◌, length, codes}
+use Rattle.std.specs.Prelude.{◌≡◌, ℕ, ◌+◌, ◌⊎◌, Option, None, Some, List, [], ◌∷◌, ◌++◌, length, codes, Result, Ok, Err}
 use Rattle.std.specs.Fmt.{decimal}
 use Rattle.std.specs.Io.KnownBytes.{Appends, IsAtEnd}
 use Rattle.keel_base.specs.Counts.{Rose}
@@ -44,11 +44,11 @@ pub record Writes (old : Session) (held : Option (List ℕ)) (command : Command)
   pub written : Appends held holds (text replies)
 
 -- how carrying out a command ends
-abbrev pub CommandEnds : Option LineStop → Session → Option (List ℕ) → Command → Session → Option (List ℕ) → Type 0
-CommandEnds None old held command new holds = Writes old held command new holds
-CommandEnds (Some Unwritten) old held command new holds = WritesPart old held command new holds
-CommandEnds (Some NoMemory) old held command new holds = CutShort old command new × (holds ≡ held)
-CommandEnds (Some Refused) old held command new holds = ⊥
+abbrev pub CommandEnds : {A : Type 0} → Result A LineStop → Session → Option (List ℕ) → Command → Session → Option (List ℕ) → Type 0
+CommandEnds (Ok done) old held command new holds = Writes old held command new holds
+CommandEnds (Err Unwritten) old held command new holds = WritesPart old held command new holds
+CommandEnds (Err NoMemory) old held command new holds = CutShort old command new × (holds ≡ held)
+CommandEnds (Err Refused) old held command new holds = ⊥
 
 -- why a run stops at this line, from old and held to new and holds
 abbrev pub Stops : LineStop → Session → Option (List ℕ) → List ℕ → Session → Option (List ℕ) → Type 0
@@ -65,16 +65,13 @@ pub record Progress (old : Session) (held : Option (List ℕ)) (lines : List (Li
   pub written : Appends held holds (text replies)
 
 -- the line was carried out, or the run stops there
-abbrev pub LineEnds : Option LineStop → Session → Option (List ℕ) → List ℕ → Session → Option (List ℕ) → Type 0
-LineEnds None old held line new holds = Progress old held (line ∷ []) new holds
-LineEnds (Some stop) old held line new holds = Stops stop old held line new holds
+abbrev pub LineEnds : {A : Type 0} → Result A LineStop → Session → Option (List ℕ) → List ℕ → Session → Option (List ℕ) → Type 0
+LineEnds (Ok done) old held line new holds = Progress old held (line ∷ []) new holds
+LineEnds (Err stop) old held line new holds = Stops stop old held line new holds
 
 -- a sink's fault is why the run stops
-abbrev pub IsUnwritten : Option LineStop → Type 0
-IsUnwritten stop = stop ≡ Some Unwritten
-
-abbrev pub IsUnwrittenAt : Option StopPlace → Type 0
-IsUnwrittenAt stop = (line : ℕ) × (stop ≡ Some (record { stop = Unwritten; line = line }))
+abbrev pub IsUnwritten : {A : Type 0} → Result A LineStop → Type 0
+IsUnwritten ended = ended ≡ Err Unwritten
 
 -- the lines before this one were carried out, and then the run stops there
 pub record StopsAt (stop : LineStop) (old : Session) (held : Option (List ℕ)) (lines : List (List ℕ)) (number : ℕ) (new : Session) (holds : Option (List ℕ)) : Type 0 where

@@ -5,7 +5,7 @@ pub mod Writes
 pub mod Drains
 pub mod Runs
 pub mod Replies
-pub mod Places
+pub mod Stores
 pub mod Cuts
 pub mod Driving
 pub mod Standing

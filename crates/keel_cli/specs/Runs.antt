@@ -119,15 +119,17 @@ rest_reply is_one_open Files = None
 rest_reply is_one_open (Crash dirops keep garbage seed) = None
 rest_reply is_one_open command = Some reply.NotBuilt
 
--- the commands on the store that write
-abbrev pub writes : Command → Bool
-writes (Put key value sync) = true
-writes (Del key sync) = true
-writes (QueuePut client key value sync) = true
-writes (QueueDel client key sync) = true
-writes Write = true
-writes (Drain moves) = true
-writes command = false
+-- the commands that the open store itself answers
+abbrev pub needs_store : Command → Bool
+needs_store (Put key value sync) = true
+needs_store (Del key sync) = true
+needs_store (QueuePut client key value sync) = true
+needs_store (QueueDel client key sync) = true
+needs_store Write = true
+needs_store (Get key) = true
+needs_store (Scan from to) = true
+needs_store (Drain moves) = true
+needs_store command = false
 
 -- the calls that a command may make, the replies that then answer it, and the state that it leaves
 abbrev pub Calls : State → Command → List Reply → State → Type 0

@@ -4,7 +4,7 @@ ghost use Rattle.keel_machine.specs.States.{State};
 ghost use Rattle.keel_core.specs.Views.{StandsFor};
 ghost use Rattle.keel_cli.specs.Drains.{DrainRun, DrainCut, IsMove, IsRest};
 ghost use Rattle.keel_machine.specs.declared.steps.WriteStep.TheVariants as steps;
-ghost use Rattle.keel_cli.specs.Places.{AreTold, CoreLeads};
+ghost use Rattle.keel_cli.specs.Stores.{AreTold, CoreLeads};
 
 use keel_base::OutOfMemory;
 use keel_core::Core;

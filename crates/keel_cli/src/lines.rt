@@ -7,10 +7,9 @@ ghost use Rattle.keel_cli.specs.Ends.{CommandEnds, LineEnds, Ends, IsUnwritten, 
 ghost use Rattle.keel_lines.specs.Inputs.{TakesFew};
 ghost use Rattle.keel_lines.specs.Lines.{longest_line};
 ghost use Rattle.keel_cli.specs.declared.top.End.TheVariants.{Usage};
-ghost use Rattle.keel_cli.specs.Places.{IsTidy};
 ghost use Rattle.keel_cli.specs.Sessions.{Session};
 
-use crate::{Driven, Driver, End, carry_out, finish, text_of};
+use crate::{Driver, End, text_of};
 use keel_base::{Sink, Source, give_all};
 use keel_disk::Device;
 use keel_lines::{LineEnd, LineReader};
@@ -35,13 +34,6 @@ pub struct StopPlace {
     pub line: u64,
 }
 
-/// A line was carried out, or the run stops at it.
-#[derive(Drop)]
-pub struct LineDone<V: Device> {
-    pub driver: Driver<V>,
-    pub stop: Option<LineStop>,
-}
-
 /// The lines of a source were carried out, as the end says.
 #[derive(Drop)]
 pub struct LinesDone<S: Source, V: Device> {
@@ -51,71 +43,51 @@ pub struct LinesDone<S: Source, V: Device> {
 }
 
 // Carries out a command and writes its replies.
-fn carry_command<K: Sink, V: Device>(
+fn run_command<K: Sink, V: Device>(
     alloc: Global,
     command: &Command,
-    driver: Driver<V>,
+    driver: &mut Driver<V>,
     out: &mut K,
-) -> LineDone<V>
-    requires tidy { IsTidy driver.place }
-    ensures tidy { IsTidy result.driver.place }
-    ensures end { (now : Session) → StandsAt V.seen driver now → IsCovered now.store
-        → LineLeads V.seen result.stop result.driver (λ new.
-        CommandEnds result.stop now (K.held out.old) command.now new (K.held out.new)) }
+) -> Result<(), LineStop>
+    ensures end { (now : Session) → StandsAt driver.old now → IsCovered now.store
+        → LineLeads result driver.new (λ new.
+        CommandEnds result now (K.held out.old) command.now new (K.held out.new)) }
     ensures later { K.faults out.old ≤ K.faults out.new }
-    ensures cause { IsUnwritten result.stop → Rose (K.faults out.old) (K.faults out.new) }
+    ensures cause { IsUnwritten result → Rose (K.faults out.old) (K.faults out.new) }
 {
-    let Driven { driver, answer } = carry_out(alloc, driver, command);
-    let Ok(answer) = answer else {
-        return LineDone {
-            driver,
-            stop: Some(LineStop::NoMemory),
-        };
+    let Ok(answer) = driver.answer(alloc, command) else {
+        return Err(LineStop::NoMemory);
     };
     let Ok(text) = text_of(alloc, &answer) else {
-        return LineDone {
-            driver,
-            stop: Some(LineStop::NoMemory),
-        };
+        return Err(LineStop::NoMemory);
     };
     match give_all(out, text.as_slice()) {
-        Ok(()) => LineDone { driver, stop: None },
-        Err(_) => LineDone {
-            driver,
-            stop: Some(LineStop::Unwritten),
-        },
+        Ok(()) => Ok(()),
+        Err(_) => Err(LineStop::Unwritten),
     }
 }
 
 // Carries out what a line says.
-fn carry_line<K: Sink, V: Device>(
+fn run_line<K: Sink, V: Device>(
     alloc: Global,
     line: &[u8],
-    driver: Driver<V>,
+    driver: &mut Driver<V>,
     out: &mut K,
-) -> LineDone<V>
-    requires short { length line.now ≤ longest_line }
-    requires tidy { IsTidy driver.place }
-    ensures tidy { IsTidy result.driver.place }
-    ensures end { (now : Session) → StandsAt V.seen driver now → IsCovered now.store
-        → LineLeads V.seen result.stop result.driver (λ new.
-        LineEnds result.stop now (K.held out.old) line.now new (K.held out.new)) }
+) -> Result<(), LineStop>
+    requires { length line.now ≤ longest_line }
+    ensures end { (now : Session) → StandsAt driver.old now → IsCovered now.store
+        → LineLeads result driver.new (λ new.
+        LineEnds result now (K.held out.old) line.now new (K.held out.new)) }
     ensures later { K.faults out.old ≤ K.faults out.new }
-    ensures cause { IsUnwritten result.stop → Rose (K.faults out.old) (K.faults out.new) }
+    ensures cause { IsUnwritten result → Rose (K.faults out.old) (K.faults out.new) }
 {
     if is_blank(line) {
-        return LineDone { driver, stop: None };
+        return Ok(());
     }
     match read_command(alloc, line) {
-        Ok(command) => carry_command(alloc, &command, driver, out),
-        Err(LineError::NotACommand) => LineDone {
-            driver,
-            stop: Some(LineStop::Refused),
-        },
-        Err(LineError::OutOfMemory) => LineDone {
-            driver,
-            stop: Some(LineStop::NoMemory),
-        },
+        Ok(command) => run_command(alloc, &command, driver, out),
+        Err(LineError::NotACommand) => Err(LineStop::Refused),
+        Err(LineError::OutOfMemory) => Err(LineStop::NoMemory),
     }
 }
 
@@ -144,7 +116,7 @@ fn end_behind(error: LineEnd, lines: u64) -> End
 }
 
 /// Carries out the lines of a source as they are taken, up to the first at which the run stops.
-pub fn carry_lines<S: Source, K: Sink, V: Device>(
+pub fn run_lines<S: Source, K: Sink, V: Device>(
     alloc: Global,
     source: S,
     out: &mut K,
@@ -165,25 +137,23 @@ pub fn carry_lines<S: Source, K: Sink, V: Device>(
             Ok(None) => {
                 return LinesDone {
                     source: reader.into_source(),
-                    device: finish(driver.place),
+                    device: driver.store.into_device(),
                     end: End::Completed,
                 };
             }
             Err(error) => {
                 return LinesDone {
                     source: reader.into_source(),
-                    device: finish(driver.place),
+                    device: driver.store.into_device(),
                     end: end_behind(error, number),
                 };
             }
         };
         number += 1;
-        let done = carry_line(alloc, line.as_slice(), driver, out);
-        driver = done.driver;
-        if let Some(stop) = done.stop {
+        if let Err(stop) = run_line(alloc, line.as_slice(), &mut driver, out) {
             return LinesDone {
                 source: reader.into_source(),
-                device: finish(driver.place),
+                device: driver.store.into_device(),
                 end: end_at(stop, number),
             };
         }

@@ -23,23 +23,25 @@ mod answer;
 mod draining;
 mod driver;
 mod lines;
-mod place;
 mod putting;
 mod stepping;
+mod store;
 mod top;
+mod words;
 
 pub use answer::{Answer, text_of};
-pub use driver::{Driven, Driver, carry_out};
+pub use driver::Driver;
 use keel_base::{ReadSource, WriteSink, give_all};
 use keel_dirdisk::DirDisk;
 use keel_disk::Device;
 use keel_simdisk::SimDisk;
-pub use lines::{LineDone, LineStop, LinesDone, StopPlace, carry_lines};
-pub use place::{Carried, Place, carry_on_store, finish};
+pub use lines::{LineStop, LinesDone, StopPlace, run_lines};
 use std::alloc::Global;
 use std::process::ExitCode;
 use std::{env, io};
+pub use store::Store;
 pub use top::{End, Ended, run_words};
+pub use words::{Asked, read_words};
 
 // How many bytes the device holds.
 const CAPACITY: u64 = 1073741824;
@@ -73,22 +75,14 @@ fn device_in_memory(alloc: Global) -> SimDisk
     SimDisk::new(alloc, CAPACITY)
 }
 
-// The path of the folder that the words ask for.
-fn folder_of(words: &Vec<String>) -> Option<&String> {
-    match words.as_slice() {
-        [word, path, ..] if word.as_str() == "dir" => Some(path),
-        _ => None,
-    }
-}
-
 fn main(rt: HostRuntime) -> ExitCode {
     let alloc = rt.alloc();
     let words = match words_of(&rt) {
         Ok(words) => words,
         Err(_) => Vec::new(alloc),
     };
-    let status = match folder_of(&words) {
-        Some(path) => match String::from_str(alloc, path.as_str()) {
+    let status = match read_words(&words) {
+        Asked::Folder(path) => match String::from_str(alloc, path.as_str()) {
             Ok(path) => run_over(&rt, &words, DirDisk::new(&rt, path, CAPACITY)),
             Err(_) => {
                 let mut err = WriteSink::new(rt.stderr());
@@ -96,7 +90,7 @@ fn main(rt: HostRuntime) -> ExitCode {
                 6
             }
         },
-        None => run_over(&rt, &words, device_in_memory(alloc)),
+        Asked::Memory | Asked::Usage => run_over(&rt, &words, device_in_memory(alloc)),
     };
     ExitCode::from(status)
 }

@@ -4,7 +4,7 @@ ghost use Rattle.keel_machine.specs.States.{State};
 ghost use Rattle.keel_machine.specs.declared.answers.Admit.TheVariants as admit;
 ghost use Rattle.keel_machine.specs.declared.answers.Part.TheVariants as parts;
 ghost use Rattle.keel_core.specs.Views.{StandsFor};
-ghost use Rattle.keel_cli.specs.Places.{AreTold, CoreLeads};
+ghost use Rattle.keel_cli.specs.Stores.{AreTold, CoreLeads};
 ghost use Rattle.keel_cli.specs.Puts.{put_batch as batch_of_put, del_batch as batch_of_del, refusal_replies, Tells, PutRun, PutCut, QueueRun, QueueCut};
 
 use keel_base::{Batch, Bytes, Op, Ops, OutOfMemory};

@@ -3,7 +3,7 @@ ghost use Rattle.std.specs.Prelude.{◌≡◌, [], ◌∷◌, Some, IfOk, IsErr,
 ghost use Rattle.keel_machine.specs.States.{State};
 ghost use Rattle.keel_machine.specs.declared.steps.WriteStep.TheVariants as steps;
 ghost use Rattle.keel_core.specs.Views.{StandsFor};
-ghost use Rattle.keel_cli.specs.Places.{AreTold, CoreLeads};
+ghost use Rattle.keel_cli.specs.Stores.{AreTold, CoreLeads};
 ghost use Rattle.keel_cli.specs.Writes.{WriteRun, WriteCut, step_replies};
 
 use keel_base::OutOfMemory;

@@ -1,12 +1,12 @@
 // The top call: a workload is read, carried out and answered.
-ghost use Rattle.std.specs.Prelude.{◌≡◌, ◌⊎◌, ◌↔◌, IfOk, IsTrue, codes, map};
+ghost use Rattle.std.specs.Prelude.{◌≡◌, ◌⊎◌, ◌↔◌, IfOk, map};
 ghost use Rattle.std.specs.String.{string_bytes};
 ghost use Rattle.keel_lines.specs.Inputs.{TakesFew};
 ghost use Rattle.keel_cli.specs.declared.top.End.{End};
 ghost use Rattle.keel_cli.specs.Ends.{Ends, NamesNoLine, StaysOrRunsOut, named, outside, message_of, status_of, Tells};
-ghost use Rattle.keel_cli.specs.Words.{AskForRun, IsPath};
+ghost use Rattle.keel_cli.specs.Words.{AskForRun};
 
-use crate::{LinesDone, carry_lines};
+use crate::{Asked, LinesDone, read_words, run_lines};
 use keel_base::{OutOfMemory, Sink, Source, give_all};
 use keel_disk::Device;
 use std::alloc::Global;
@@ -34,33 +34,6 @@ pub struct Ended<S: Source, K: Sink, E: Sink, V: Device> {
     pub device: V,
 }
 
-// Whether a word may be a path: it isn't empty, and doesn't begin with a minus sign.
-fn is_path(word: &str) -> bool
-    ensures { IsTrue result ↔ IsPath word.now }
-{
-    match word.as_bytes() {
-        [] => false,
-        [first, ..] => *first != b'-',
-    }
-}
-
-// Whether the words ask for a run over the folder of a path.
-fn name_folder(word: &str, path: &str) -> bool
-    ensures { IsTrue result ↔ ((word.now ≡ codes "dir") × IsPath path.now) }
-{
-    word == "dir" && is_path(path)
-}
-
-fn ask_for_run(words: &Vec<String>) -> bool
-    ensures { IsTrue result ↔ AskForRun (map string_bytes words.now.items) }
-{
-    match words.as_slice() {
-        [word] => word.as_str() == "run",
-        [word, path] => name_folder(word.as_str(), path.as_str()),
-        _ => false,
-    }
-}
-
 /// Carries out the workload of the source, where the words ask for it.
 fn work<S: Source, K: Sink, V: Device>(
     alloc: Global,
@@ -75,14 +48,13 @@ fn work<S: Source, K: Sink, V: Device>(
         (outside (S.remaining result.source) (S.faults result.source) (K.held out.new) (K.faults out.new) (V.seen result.device)) }
     ensures taken { TakesFew (S.remaining source) (S.remaining result.source) }
 {
-    if ask_for_run(words) {
-        carry_lines(alloc, source, out, device)
-    } else {
-        LinesDone {
+    match read_words(words) {
+        Asked::Memory | Asked::Folder(_) => run_lines(alloc, source, out, device),
+        Asked::Usage => LinesDone {
             source,
             device,
             end: End::Usage,
-        }
+        },
     }
 }
 

@@ -2,7 +2,7 @@ use Rattle.std.proofs.Common.{◌≤◌, ◌-◌}
 use Rattle.keel_machine.specs.States.{State}
 use Rattle.keel_core.specs.Views.{StandsFor}
 use Rattle.keel_cli.specs.Drains.{Moves}
-use Rattle.keel_cli.specs.Places.{AreTold, CoreLeads}
+use Rattle.keel_cli.specs.Stores.{AreTold, CoreLeads}
 use Rattle.keel_cli.proofs.draining.drain.Given as goal
 
 -- so many moves were made

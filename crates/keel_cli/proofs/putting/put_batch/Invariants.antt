@@ -2,7 +2,7 @@ use Rattle.std.proofs.Common.{List}
 use Rattle.keel_machine.specs.States.{State}
 use Rattle.keel_machine.specs.declared.steps.WriteStep.{WriteStep}
 use Rattle.keel_core.specs.Views.{StandsFor, calls_left}
-use Rattle.keel_cli.specs.Places.{AreTold, CoreLeads}
+use Rattle.keel_cli.specs.Stores.{AreTold, CoreLeads}
 use Rattle.keel_cli.specs.Puts.{Queues}
 use Rattle.keel_cli.proofs.Tickets.{KnownIn}
 use Rattle.keel_cli.proofs.putting.put_batch.Given as goal

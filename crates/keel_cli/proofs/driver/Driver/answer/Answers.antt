@@ -1,0 +1,12 @@
+use Rattle.keel_cli.proofs.Driving.{drives}
+use Rattle.keel_cli.proofs.driver.Driver.answer.Goals as goal
+
+pub returns-in-Some : goal.returns-in-Some
+returns-in-Some g c session stands covered = c.in-Some.ensures.out session stands
+
+pub returns : goal.returns
+returns g c session stands covered =
+    let same = c.in_default.ensures.same in
+    rw same
+    (drives g.row.V.Denot c.args.self.now c.answer.new.self c.answer.result c.args.command.now session stands c.in_default.ensures.none
+    (c.answer.ensures session.store (rw same stands.store) covered))

@@ -1,0 +1,312 @@
+// The program's store: closed, on a device alone, or open.
+ghost use Rattle.std.specs.Prelude.{◌≡◌, [], ◌∷◌, false, true, IfOk, IsErr, Err, Ok, Some};
+ghost use Rattle.keel_disk.specs.declared.error.DiskError.TheVariants as disk;
+ghost use Rattle.keel_machine.specs.States.{State};
+ghost use Rattle.keel_core.specs.Views.{StandsFor};
+ghost use Rattle.keel_reading.specs.declared.refusal.OpenRefusal.TheVariants as refused;
+ghost use Rattle.keel_recovery.specs.Machine.{IsCovered};
+ghost use Rattle.keel_script.specs.declared.command.Command.TheVariants as command;
+ghost use Rattle.keel_cli.specs.declared.answer.Answer.TheVariants as answers;
+ghost use Rattle.keel_cli.specs.Cuts.{CarriedOut};
+ghost use Rattle.keel_cli.specs.Replies.{replies_of};
+ghost use Rattle.keel_cli.specs.Runs.{listing_replies, needs_store, opening_replies, rest_reply};
+ghost use Rattle.keel_cli.specs.Stores.{AreTold, IsTidy, Shows, Stands, is_one_open, view_of};
+ghost use Rattle.keel_cli.specs.Stores as view;
+
+use crate::Answer;
+use crate::draining::drain;
+use crate::putting::{delete_key, put_pair, queue_delete, queue_pair};
+use crate::stepping::write;
+use keel_base::{Bytes, Listing, OutOfMemory};
+use keel_core::{Core, Refused};
+use keel_disk::{Device, DiskError, Pick};
+use keel_machine::{Got, Scanned};
+use keel_reading::OpenRefusal;
+use keel_script::{Command, Reply};
+use std::alloc::Global;
+use std::marker::Model;
+use std::mem;
+
+/// The store that a run carries its commands out on.
+#[derive(Drop)]
+pub struct Store<V: Device> {
+    held: Held<V>,
+}
+
+#[derive(Drop)]
+enum Held<V: Device> {
+    Closed(V),
+    Open(Core<V>),
+    // A call has the device, and puts it back before it returns.
+    Lent,
+}
+
+impl<V: Device> Model for Store<V> {
+    ghost use Rattle.keel_cli.specs.Stores.{IsTidy, StoreView, view_of};
+
+    ghost Value = { StoreView };
+
+    ghost view = { λ store. view_of V.seen store.held };
+
+    ghost invariant = { λ store. IsTidy (view_of V.seen store.held) };
+}
+
+// The answer of one reply, unless memory ended.
+fn one(reply: Result<Reply, OutOfMemory>) -> Result<Answer, OutOfMemory>
+    ensures ok { IfOk reply (λ reply. result ≡ Ok (answers.One reply)) }
+    ensures err { IsErr reply → IsErr result }
+{
+    match reply {
+        Ok(reply) => Ok(Answer::One(reply)),
+        Err(OutOfMemory) => Err(OutOfMemory),
+    }
+}
+
+// What an opening that was refused is answered.
+fn refusal_reply(refusal: OpenRefusal) -> Result<Reply, OutOfMemory>
+    ensures printed { IfOk result (λ reply. opening_replies (Err refusal) ≡ Some (reply ∷ [])) }
+    ensures cut { IsErr result → refusal ≡ refused.OutOfMemory }
+{
+    match refusal {
+        OpenRefusal::Device(fault) => Ok(Reply::RefusedDevice(fault)),
+        OpenRefusal::NoCurrent { file } => Ok(Reply::RefusedNoCurrent(file)),
+        OpenRefusal::BadLog { log, at } => Ok(Reply::RefusedBadLog { number: log, at }),
+        OpenRefusal::LogGap {
+            log,
+            expected,
+            found,
+        } => Ok(Reply::RefusedLogGap {
+            number: log,
+            expected,
+            found,
+        }),
+        OpenRefusal::OutOfMemory => Err(OutOfMemory),
+    }
+}
+
+// What a listing is answered.
+fn list_answer(listed: Result<Listing, DiskError>) -> Result<Answer, OutOfMemory>
+    ensures ok { IfOk result (λ answer. listing_replies listed ≡ Some (replies_of answer)) }
+    ensures err { IsErr result → listed ≡ Err disk.OutOfMemory }
+{
+    match listed {
+        Ok(listing) => Ok(Answer::Files(listing)),
+        Err(DiskError::Fault(fault)) => Ok(Answer::One(Reply::ReadFault(fault))),
+        Err(DiskError::OutOfMemory) => Err(OutOfMemory),
+    }
+}
+
+// The reply to a command that makes no call.
+fn rest_reply(is_open: bool, command: &Command) -> Option<Reply>
+    ensures { result ≡ rest_reply is_open command.now }
+{
+    match command {
+        Command::Open => { if is_open { Some(Reply::IsOpen) } else { None } }
+        Command::Put { .. }
+        | Command::Del { .. }
+        | Command::QueuePut { .. }
+        | Command::QueueDel { .. }
+        | Command::Write
+        | Command::Get { .. }
+        | Command::Scan { .. }
+        | Command::Drain { .. } => { if is_open { None } else { Some(Reply::NotOpen) } }
+        Command::Files | Command::Crash { .. } => None,
+        _ => Some(Reply::NotBuilt),
+    }
+}
+
+// Reads the value at a key.
+fn get<V: Device>(alloc: Global, core: &mut Core<V>, key: &Bytes) -> Result<Answer, OutOfMemory>
+    requires { AreTold core.old.outcomes }
+    ensures told { AreTold core.new.outcomes }
+    ensures out { (s : State) → StandsFor core.old s
+        → CarriedOut s (command.Get key.now) (view.Open core.new) result }
+{
+    match core.get(alloc, key.as_slice()) {
+        Got::Value(value) => Ok(Answer::One(Reply::Value(value))),
+        Got::Absent => Ok(Answer::One(Reply::Absent)),
+        Got::OutOfMemory => Err(OutOfMemory),
+    }
+}
+
+// Reads the keys of a range.
+fn scan<V: Device>(
+    alloc: Global,
+    core: &mut Core<V>,
+    from: &Bytes,
+    to: &Bytes,
+) -> Result<Answer, OutOfMemory>
+    requires { AreTold core.old.outcomes }
+    ensures told { AreTold core.new.outcomes }
+    ensures out { (s : State) → StandsFor core.old s
+        → CarriedOut s (command.Scan from.now to.now) (view.Open core.new) result }
+{
+    match core.scan(alloc, from.as_slice(), to.as_slice()) {
+        Scanned::Rows(rows) => Ok(Answer::Rows(rows)),
+        Scanned::OutOfMemory => Err(OutOfMemory),
+    }
+}
+
+// Carries out a command that an open store itself answers.
+fn answer_on<V: Device>(
+    alloc: Global,
+    core: &mut Core<V>,
+    command: &Command,
+) -> Result<Answer, OutOfMemory>
+    requires told { AreTold core.old.outcomes }
+    requires store { needs_store command.now ≡ true }
+    ensures told { AreTold core.new.outcomes }
+    ensures out { (s : State) → StandsFor core.old s
+        → CarriedOut s command.now (view.Open core.new) result }
+{
+    match command {
+        Command::Put { key, value, sync } => one(put_pair(alloc, core, key, value, *sync)),
+        Command::Del { key, sync } => one(delete_key(alloc, core, key, *sync)),
+        Command::QueuePut {
+            key,
+            value,
+            sync,
+            ..
+        } => one(queue_pair(alloc, core, key, value, *sync)),
+        Command::QueueDel { key, sync, .. } => one(queue_delete(alloc, core, key, *sync)),
+        Command::Write => one(write(alloc, core)),
+        Command::Drain { moves } => one(drain(alloc, core, *moves)),
+        Command::Get { key } => get(alloc, core, key),
+        Command::Scan { from, to } => scan(alloc, core, from, to),
+        _ => unreachable!(),
+    }
+}
+
+impl<V: Device> Held<V> {
+    // Takes the device out; a store that was open is dropped.
+    fn take_device(&mut self) -> V
+        requires { IsTidy (view_of V.seen self.old) }
+        ensures { Shows (view_of V.seen self.old) (V.seen result) }
+    {
+        match mem::replace(self, Held::Lent) {
+            Held::Closed(device) => device,
+            Held::Open(core) => core.finish(),
+            Held::Lent => unreachable!(),
+        }
+    }
+}
+
+impl<V: Device> Store<V> {
+    /// A closed store on a device.
+    pub fn new(device: V) -> Store<V>
+        ensures { result ≡ view.Closed (V.seen device) }
+    {
+        Store {
+            held: Held::Closed(device),
+        }
+    }
+
+    pub fn is_open(&self) -> bool
+        ensures { result ≡ is_one_open self.now }
+    {
+        match &self.held {
+            Held::Open(_) => true,
+            _ => false,
+        }
+    }
+
+    /// Hands the device back.
+    pub fn into_device(self) -> V
+        ensures { Shows self (V.seen result) }
+    {
+        let Store { mut held } = self;
+        held.take_device()
+    }
+
+    // Whether its device is a simulated one.
+    fn simulated(&self) -> bool
+        ensures { (s : State) → Stands self.now s → result ≡ s.device.simulated }
+    {
+        match &self.held {
+            Held::Closed(device) => device.simulated(),
+            Held::Open(core) => core.simulated(),
+            Held::Lent => unreachable!(),
+        }
+    }
+
+    /// Opens a closed store. Where that is refused, it stays closed.
+    fn open(&mut self, alloc: Global) -> Result<Answer, OutOfMemory>
+        requires { is_one_open self.old ≡ false }
+        ensures { (s : State) → Stands self.old s → IsCovered s
+            → CarriedOut s command.Open self.new result }
+    {
+        let device = self.held.take_device();
+        match Core::open(alloc, device) {
+            Ok(core) => {
+                let seq = core.last_seq();
+                self.held = Held::Open(core);
+                Ok(Answer::One(Reply::Opened { seq }))
+            }
+            Err(Refused { refusal, disk }) => {
+                self.held = Held::Closed(disk);
+                one(refusal_reply(refusal))
+            }
+        }
+    }
+
+    /// The files of the directory.
+    fn list(&mut self, alloc: Global) -> Result<Answer, OutOfMemory>
+        ensures { (s : State) → Stands self.old s
+            → CarriedOut s command.Files self.new result }
+    {
+        match &mut self.held {
+            Held::Closed(device) => list_answer(device.list(alloc)),
+            Held::Open(core) => list_answer(core.list(alloc)),
+            Held::Lent => unreachable!(),
+        }
+    }
+
+    /// Crashes a simulated device, which leaves the store closed.
+    fn crash(&mut self, alloc: Global, pick: Pick) -> Result<Answer, OutOfMemory>
+        ensures { (s : State) → Stands self.old s → IsCovered s
+            → CarriedOut s (command.Crash pick.dirops pick.keep pick.garbage pick.seed) self.new result }
+    {
+        if !self.simulated() {
+            return Ok(Answer::One(Reply::NotSimulated));
+        }
+        let mut device = self.held.take_device();
+        let crashed = device.crash(alloc, pick);
+        self.held = Held::Closed(device);
+        match crashed {
+            Ok(_) => Ok(Answer::One(Reply::Crashed)),
+            Err(OutOfMemory) => Err(OutOfMemory),
+        }
+    }
+
+    /// Carries out a command.
+    pub fn answer(&mut self, alloc: Global, command: &Command) -> Result<Answer, OutOfMemory>
+        ensures { (s : State) → Stands self.old s → IsCovered s
+            → CarriedOut s command.now self.new result }
+    {
+        if let Some(reply) = rest_reply(self.is_open(), command) {
+            return Ok(Answer::One(reply));
+        }
+        match command {
+            Command::Open => self.open(alloc),
+            Command::Files => self.list(alloc),
+            Command::Crash {
+                dirops,
+                keep,
+                garbage,
+                seed,
+            } => self.crash(
+                alloc,
+                Pick {
+                    dirops: *dirops,
+                    keep: *keep,
+                    garbage: *garbage,
+                    seed: *seed,
+                },
+            ),
+            _ => match &mut self.held {
+                Held::Open(core) => answer_on(alloc, core, command),
+                _ => unreachable!(),
+            },
+        }
+    }
+}
