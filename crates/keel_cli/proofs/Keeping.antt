@@ -35,23 +35,23 @@ none_some x e = cc
 
 module _ (C : State → Type 0) (keep : (old new : State) (event : Event) → MayCall old event → Turn old event new → C old → C new) where
   -- a store that is open and of which this holds stays so
-  record IsKept (s : State) : Type 0 where
-    opened : is_open s.mode ≡ true
-    kept : C s
+  pub record IsKept (s : State) : Type 0 where
+    pub opened : is_open s.mode ≡ true
+    pub kept : C s
 
-  admitted : (old new : State) (batch : Batch) (answer : Admit) → Turn old (Admitting batch answer) new → IsKept old → IsKept new
+  pub admitted : (old new : State) (batch : Batch) (answer : Admit) → Turn old (Admitting batch answer) new → IsKept old → IsKept new
   admitted old new batch answer turn is = record {
     opened = ap (λ (s : State). is_open s.mode) turn.1 ∙ (ap is_open (mode_admitted old batch answer) ∙ is.opened);
     kept = keep old new (Admitting batch answer) is.opened turn is.kept;
   }
 
-  written : (old new : State) (held : Option ℕ) (made : WriteStep) → Turn old (Writing held made) new → IsKept old → IsKept new
+  pub written : (old new : State) (held : Option ℕ) (made : WriteStep) → Turn old (Writing held made) new → IsKept old → IsKept new
   written old new held made turn is = record {
     opened = ap (λ (s : State). is_open s.mode) turn.1 ∙ (ap is_open (mode_written old made) ∙ is.opened);
     kept = keep old new (Writing held made) is.opened turn is.kept;
   }
 
-  taken : (old new : State) (ticket : ℕ) (outcome : Outcome) → Turn old (TakingOutcome ticket outcome) new → IsKept old → IsKept new
+  pub taken : (old new : State) (ticket : ℕ) (outcome : Outcome) → Turn old (TakingOutcome ticket outcome) new → IsKept old → IsKept new
   taken old new ticket outcome turn is = record {
     opened = ap (λ (s : State). is_open s.mode) turn.1 ∙ is.opened;
     kept = keep old new (TakingOutcome ticket outcome) is.opened turn is.kept;
@@ -59,7 +59,7 @@ module _ (C : State → Type 0) (keep : (old new : State) (event : Event) → Ma
 
   -- ---- writes
 
-  waited : (old new : State) (ticket : ℕ) (steps : List WriteStep) → Waits old ticket steps new → IsKept old → IsKept new
+  pub waited : (old new : State) (ticket : ℕ) (steps : List WriteStep) → Waits old ticket steps new → IsKept old → IsKept new
   waited old new ticket [] same is = rw same is
   waited old new ticket (made ∷ earlier) waits is =
       written waits.1 new None made waits.4 (taken waits.0 waits.1 ticket outcome.Waiting waits.3 (waited old waits.0 ticket earlier waits.2 is))
@@ -84,7 +84,7 @@ module _ (C : State → Type 0) (keep : (old new : State) (event : Event) → Ma
 
   -- ---- drains
 
-  moved : (old new : State) (made : ℕ) → Moves old made new → IsKept old → IsKept new
+  pub moved : (old new : State) (made : ℕ) → Moves old made new → IsKept old → IsKept new
   moved old new zero same is = rw same is
   moved old new (suc made) moves is = written moves.0 new None moves.1 moves.4 (moved old moves.0 made moves.2 is)
 

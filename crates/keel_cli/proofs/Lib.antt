@@ -11,6 +11,7 @@ pub mod Listings
 pub mod Ending
 pub mod Modes
 pub mod Keeping
+pub mod Each
 pub mod Recovering
 pub mod Running
 pub mod Streaming

@@ -10,4 +10,5 @@ pub mod Cuts
 pub mod Driving
 pub mod Standing
 pub mod Ends
+pub mod Inside
 pub mod Words
