@@ -10,4 +10,5 @@ pub mod Told
 pub mod Files
 pub mod Rule
 pub mod Seen
+pub mod Steady
 pub mod Laws
