@@ -11,3 +11,4 @@ pub mod SoundSteps
 pub mod Operating
 pub mod Reaching
 pub mod Steadily
+pub mod Imaging

@@ -3,7 +3,10 @@ pub mod FirstTests
 pub mod Sizes
 pub mod OneToOne
 pub mod MoreLogs
+pub mod Parting
 pub mod TornLog
+pub mod Seeing
+pub mod Stands
 pub mod OneReading
 pub mod Holding
 pub mod Covers

@@ -18,3 +18,8 @@ payloads_behind last (ops ∷ batches) = spelling (last + 1) ops ∷ payloads_be
 abbrev pub AreBatches : ℕ → List (List Op) → Type 0
 AreBatches last [] = Unit {0}
 AreBatches last (ops ∷ batches) = IsBatch (last + 1) ops × AreBatches (last + length ops) batches
+
+-- how many ops these batches have
+abbrev pub count_ops : List (List Op) → ℕ
+count_ops [] = 0
+count_ops (ops ∷ batches) = length ops + count_ops batches

@@ -1,5 +1,7 @@
 pub mod Standing
 pub mod Batches
+pub mod Chains
+pub mod Keeping
 pub mod Covering
 pub mod Crashing
 pub mod Steps
