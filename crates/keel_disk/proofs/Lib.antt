@@ -12,3 +12,4 @@ pub mod Operating
 pub mod Reaching
 pub mod Steadily
 pub mod Imaging
+pub mod Staying

@@ -19,7 +19,7 @@ find-unlinked_none name other (entry ∷ rest) none =
           ]
     ] refl none
 
-find-unlinked_same : (name : FileName) (directory : Named ℕ) → find name (unlinked name directory) ≡ None
+pub find-unlinked_same : (name : FileName) (directory : Named ℕ) → find name (unlinked name directory) ≡ None
 find-unlinked_same name [] = refl
 find-unlinked_same name (entry ∷ rest) =
     elim (name_eq entry.0 name) as (λ b. name_eq entry.0 name ≡ b → find name (if b then unlinked name rest else entry ∷ unlinked name rest) ≡ None) [

@@ -35,6 +35,10 @@ pub record IsPresent (name : FileName) (file : ℕ) (state : State) : Type 0 whe
 abbrev pub IsAbsent : FileName → State → Type 0
 IsAbsent name state = (count : ℕ) → file_behind count name state ≡ None
 
+-- the cuts that wait are of files that there are
+abbrev pub CutsExist : State → Type 0
+CutsExist state = (file : ℕ) → length state.files ≤ file → has_waiting_cut file state.waiting ≡ false
+
 -- ---- files
 
 -- the file is firm in whole, with these bytes

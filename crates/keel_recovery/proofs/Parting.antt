@@ -2,7 +2,9 @@
 use Rattle.std.proofs.Common.{◌≡◌, ℕ, ◌+◌, List, [], ◌∷◌, ◌++◌, length, ap, subst, ◌∙◌, arith}
 use Rattle.keel_base.specs.declared.op.Op.{Op}
 use Rattle.keel_reading.specs.Logs.{Numbered}
-use Rattle.keel_recovery.specs.Batches.{numbered, AreBatches, count_ops}
+use Rattle.keel_batch.specs.Batches.{AreBatches}
+use Rattle.keel_machine.specs.Admission.{count_ops}
+use Rattle.keel_recovery.specs.Batches.{numbered}
 
 pub front_batches : (last : ℕ) (front rest : List (List Op)) → AreBatches last (front ++ rest) → AreBatches last front
 front_batches last [] rest h = tt

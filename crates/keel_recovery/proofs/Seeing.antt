@@ -13,7 +13,9 @@ use Rattle.keel_frag.proofs.Plainness.{fronts_are_plain}
 use Rattle.keel_reading.specs.Logs.{Numbered, ops_of, Says, log_bytes, LogsSay, RunOn, count_ops as read_ops}
 use Rattle.keel_reading.specs.Reading.{AreLogsBelow, ReadsBelow, Reads}
 use Rattle.keel_reading.proofs.OneReading.{nothing_said}
-use Rattle.keel_recovery.specs.Batches.{numbered, payloads_behind, AreBatches, count_ops}
+use Rattle.keel_batch.specs.Batches.{payloads_behind, AreBatches}
+use Rattle.keel_machine.specs.Admission.{count_ops}
+use Rattle.keel_recovery.specs.Batches.{numbered}
 use Rattle.keel_recovery.specs.Chains.{Chained, payloads, size_of_first, batches_of, FollowOn, is_chained}
 use Rattle.keel_recovery.proofs.Numbering.{folded_append, seq_read, numbered_ops, numbered_run_on, run_on_append, payloads_length}
 use Rattle.keel_recovery.proofs.Parting.{front_batches, rest_batches, numbered_append}

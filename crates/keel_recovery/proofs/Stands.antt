@@ -1,16 +1,14 @@
 -- A device of which that is kept stands for its story.
 use Rattle.std.specs.Prelude.{option_map, unwrap_or}
-use Rattle.std.proofs.Common.{◌≡◌, inl, inr, ⊎_elim, ℕ, zero, suc, ◌+◌, ◌-◌, ◌≤◌, List, [], ◌∷◌, ◌++◌, length, take, Option, Some, None, refl, sym, ap, subst, ◌∙◌, arith, take_all, take-add}
+use Rattle.std.proofs.Common.{◌≡◌, inl, inr, ⊎_elim, ℕ, suc, ◌+◌, ◌-◌, ◌≤◌, List, [], ◌∷◌, ◌++◌, length, take, Option, Some, None, refl, sym, ap, subst, ◌∙◌, arith, take_all, take-add}
 use Rattle.std.proofs.lemmas.List.{append-nil, length-append, length-drop, take_at}
 use Rattle.keel_base.specs.Points.{Point, fold_batches}
 use Rattle.keel_base.specs.declared.file_name.FileName.{FileName}
 use Rattle.keel_base.specs.declared.file_name.FileName.TheVariants.{Log}
 use Rattle.keel_base.specs.declared.op.Op.{Op}
 use Rattle.keel_disk.specs.declared.state.File.{File}
-use Rattle.keel_disk.specs.declared.state.Operation.{Operation}
-use Rattle.keel_disk.specs.declared.state.Operation.TheVariants.{Link, Move, Unlink, Shorten}
 use Rattle.keel_disk.specs.Directory.{Named, find}
-use Rattle.keel_disk.specs.State.{State, file_at, files_operated, files_operated_all, settled_through, directory_read}
+use Rattle.keel_disk.specs.State.{State, file_at, settled_through, directory_read}
 use Rattle.keel_disk.specs.Image.{IsFileImage, AreImages}
 use Rattle.keel_disk.specs.Plain.{PlainImage, bytes_read, image_read}
 use Rattle.keel_disk.specs.Steady.{file_behind, Always, IsSteady, IsAbsent, IsHeld}
@@ -26,6 +24,7 @@ use Rattle.keel_reading.specs.Reading.{AreLogsBelow}
 use Rattle.keel_recovery.specs.Chains.{Chained, payloads, size_of_first, batches_of, HoldsRecords, HoldsBatches, IsWholeLog, AreChained, IsEmpty, OthersEmpty}
 use Rattle.keel_recovery.specs.Keeping.{IsFirmLog, AreLogs, IsBase, point_at, HoldStory, Keeps}
 use Rattle.keel_recovery.specs.Standing.{ReadsIn, Stands}
+use Rattle.keel_recovery.proofs.Emptying.{empty_operated}
 use Rattle.keel_recovery.proofs.Numbering.{folded_append}
 use Rattle.keel_recovery.proofs.Seeing.{raised, SeenLog, AreSeen, ReadsBehind, Shown, shown_reads}
 
@@ -71,21 +70,6 @@ pub record Showing (firm_of : File → ℕ) (state : State) (image : Named (List
 
 -- ---- an image
 
-cut_empty : (file number size : ℕ) (files : List File) → (file_at file files).meant ≡ [] → (file_at file (files_operated (Shorten number size) files)).meant ≡ []
-cut_empty file number size [] none = none
-cut_empty zero zero size (first ∷ files) none = ap (take size) none ∙ take_all size [] (omega arith)
-cut_empty zero (suc number) size (first ∷ files) none = none
-cut_empty (suc file) zero size (first ∷ files) none = none
-cut_empty (suc file) (suc number) size (first ∷ files) none = cut_empty file number size files none
-
--- a file that holds no byte has none behind cuts
-still_empty : (file : ℕ) (operations : List Operation) (files : List File) → (file_at file files).meant ≡ [] → (file_at file (files_operated_all operations files)).meant ≡ []
-still_empty file [] files none = none
-still_empty file (Shorten other size ∷ rest) files none = still_empty file rest (files_operated (Shorten other size) files) (cut_empty file other size files none)
-still_empty file (Link name other ∷ rest) files none = still_empty file rest files none
-still_empty file (Move from to ∷ rest) files none = still_empty file rest files none
-still_empty file (Unlink name ∷ rest) files none = still_empty file rest files none
-
 no_bytes : (file : File) (bytes : List ℕ) → file.meant ≡ [] → IsFileImage file bytes → bytes ≡ []
 no_bytes file [] none image = refl
 no_bytes file (byte ∷ bytes) none image = absurd (omega (arith, image.no_longer, ap length none))
@@ -120,7 +104,7 @@ image_shows state image (count, (images, plain)) =
           record { is_image = record { least = is.is_image.no_shorter; most = is.is_image.no_longer; agrees = is.is_image.agrees }; plain = is.plain };
       absent = λ number h. found_absent settled.files (Log number) (file_behind count (Log number) state) (find (Log number) image) (h count) (found number);
       empty = λ number h. found_empty settled.files number (file_behind count (Log number) state) (find (Log number) image)
-          (λ file is. still_empty file (take count state.waiting) state.files (h count file is).meant) (found number);
+          (λ file is. (empty_operated file (take count state.waiting) state.files (h count file is)).meant) (found number);
     }
 
 -- ---- what reads give

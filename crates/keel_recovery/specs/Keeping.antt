@@ -10,7 +10,7 @@ use Rattle.keel_machine.specs.States.{Story}
 use Rattle.keel_reading.specs.Answers.{IsLog}
 use Rattle.keel_reading.specs.Logs.{log_bytes}
 use Rattle.keel_reading.specs.Reading.{ReadsBelow}
-use Rattle.keel_recovery.specs.Batches.{AreBatches}
+use Rattle.keel_batch.specs.Batches.{AreBatches}
 use Rattle.keel_recovery.specs.Chains.{Chained, batches_of, FollowOn, AreChained, OthersEmpty}
 
 -- ---- what was there before the store's own logs

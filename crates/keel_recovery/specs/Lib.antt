@@ -2,9 +2,4 @@ pub mod Standing
 pub mod Batches
 pub mod Chains
 pub mod Keeping
-pub mod Covering
-pub mod Crashing
-pub mod Steps
-pub mod Laws
-pub mod Machine
-pub mod Worked
+pub mod Calls
