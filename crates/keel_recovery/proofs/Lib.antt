@@ -7,3 +7,8 @@ pub mod Stands
 pub mod Passing
 pub mod Framing
 pub mod Growing
+pub mod Opened
+pub mod Restarted
+pub mod Crashed
+pub mod Found
+pub mod Inside

@@ -3,3 +3,5 @@ pub mod Batches
 pub mod Chains
 pub mod Keeping
 pub mod Calls
+pub mod Crashing
+pub mod Laws
