@@ -152,6 +152,9 @@ others_pass (log ∷ logs) change answer state after one apart step = (
   others_pass logs change answer state after one apart.1 step,
 )
 
+pub free_pass : (least : ℕ) (logs : List Chained) (change : Change) (answer : Answer) (state after : State) → IsOneToOne state → IsOfFree least logs change → DiskStep state change answer after → AllPass logs state after
+free_pass least logs change answer state after one free step = others_pass logs change answer state after one (free_others least logs change free) step
+
 -- ---- empty files
 
 -- what holds no byte before holds none

@@ -12,3 +12,14 @@ pub mod Restarted
 pub mod Crashed
 pub mod Found
 pub mod Inside
+pub mod Acting
+pub mod Grouping
+pub mod Sizes
+pub mod Turning
+pub mod Kept
+pub mod Crashing
+pub mod OneReading
+pub mod Readable
+pub mod GoingOn
+pub mod Machine
+pub mod Forging

@@ -5,3 +5,4 @@ pub mod Keeping
 pub mod Calls
 pub mod Crashing
 pub mod Laws
+pub mod Machine
