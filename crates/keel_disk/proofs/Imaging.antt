@@ -1,12 +1,12 @@
 -- What an image, and what reads, have of one name.
 use Rattle.std.specs.Prelude.{option_map}
-use Rattle.std.proofs.Common.{◌≡◌, ℕ, Bool, true, false, List, [], ◌∷◌, Option, Some, None, refl, sym, ap, subst, ◌∙◌, arith, if◌then◌else◌, take_all}
+use Rattle.std.proofs.Common.{◌≡◌, ℕ, true, false, List, [], ◌∷◌, Option, Some, None, refl, ap, subst, if◌then◌else◌}
 use Rattle.keel_base.specs.declared.file_name.FileName.{FileName}
 use Rattle.keel_base.specs.Name.{name_eq}
 use Rattle.keel_base.proofs.Names.{name_eq-true}
 use Rattle.keel_disk.specs.declared.state.File.{File}
 use Rattle.keel_disk.specs.Directory.{Named, find}
-use Rattle.keel_disk.specs.State.{State, file_at}
+use Rattle.keel_disk.specs.State.{file_at}
 use Rattle.keel_disk.specs.Image.{IsFileImage, AreImages}
 use Rattle.keel_disk.specs.Plain.{has_fragments, PlainWhere, ArePlain, bytes_read}
 

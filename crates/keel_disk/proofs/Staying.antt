@@ -1,7 +1,6 @@
 -- Names and files stay one to one behind each answer of a call, and waiting cuts are of files that there are.
-use Rattle.std.proofs.Common.{◌≡◌, ℕ, ◌+◌, ◌<◌, ◌≤◌, ◌||◌, Bool, true, false, List, [], ◌∷◌, ◌++◌, length, take, drop, Some, Result, refl, sym, ap, subst, ◌∙◌, arith, eqb, eqb-true, length-set}
+use Rattle.std.proofs.Common.{◌≡◌, ℕ, ◌+◌, ◌<◌, ◌≤◌, ◌||◌, Bool, true, false, [], ◌∷◌, ◌++◌, length, take, drop, Result, refl, sym, subst, arith, eqb, eqb-true, length-set}
 use Rattle.std.proofs.lemmas.List.{length_push}
-use Rattle.keel_base.specs.declared.file_name.FileName.{FileName}
 use Rattle.keel_base.specs.Name.{IsName}
 use Rattle.keel_disk.specs.declared.error.DiskError.{DiskError}
 use Rattle.keel_disk.specs.declared.state.File.{File}
@@ -9,7 +8,7 @@ use Rattle.keel_disk.specs.declared.state.Operation.TheVariants.{Link, Move, Unl
 use Rattle.keel_disk.specs.declared.change.Change.{Change}
 use Rattle.keel_disk.specs.declared.change.Change.TheVariants.{Create, Append, Sync, Rename, Remove, Cut, SyncDir}
 use Rattle.keel_disk.specs.Directory.{operated_all}
-use Rattle.keel_disk.specs.State.{State, new_file, file_at, files_operated_all, settled_through, directory_read, file_of, has_waiting_cut}
+use Rattle.keel_disk.specs.State.{State, new_file, file_at, directory_read, has_waiting_cut}
 use Rattle.keel_disk.specs.Step.{DiskStep, extended, spoiled, synced, with_file, cut_read}
 use Rattle.keel_disk.specs.Sound.{AreOwn, IsOneToOne}
 use Rattle.keel_disk.specs.Steady.{CutsExist}

@@ -1,7 +1,7 @@
 -- Each call of a group keeps what the store's logs hold.
 use Rattle.std.specs.Prelude.{is_some}
 use Rattle.std.specs.List.{AllByRecursion}
-use Rattle.std.proofs.Common.{◌≡◌, ◌⊎◌, inl, inr, ℕ, zero, suc, ◌+◌, ◌<◌, ◌≤◌, ◌||◌, Bool, true, false, List, [], ◌∷◌, ◌++◌, length, drop, Option, Some, None, Ok, Err, refl, sym, ap, subst, ◌∙◌, arith, eqb, eqb-true}
+use Rattle.std.proofs.Common.{◌≡◌, inl, inr, ℕ, zero, suc, ◌+◌, ◌<◌, ◌≤◌, ◌||◌, Bool, true, false, List, [], ◌∷◌, ◌++◌, length, drop, Option, Some, None, Ok, Err, refl, sym, ap, subst, ◌∙◌, arith, eqb, eqb-true}
 use Rattle.std.proofs.lemmas.List.{append_assoc, append-nil}
 use Rattle.keel_base.specs.Points.{Point, fold_batches}
 use Rattle.keel_base.specs.declared.failure.Failure.{Failure}
@@ -19,11 +19,11 @@ use Rattle.keel_disk.specs.Steady.{CutsExist}
 use Rattle.keel_frag.specs.Writing.{records_bytes}
 use Rattle.keel_machine.specs.Admission.{ops_of, count_ops}
 use Rattle.keel_group.specs.Queue.{Ticketed}
-use Rattle.keel_machine.specs.States.{Story, SegmentLog, Segment, Group, Act, MakeLog, SyncDirectory, AddRecords, SyncLog, point_of, handed, published, new_log}
-use Rattle.keel_recovery.specs.Calls.{Answer, point_handed, next_chained, IsNext, AllWhole, CanGrow, grown}
+use Rattle.keel_machine.specs.States.{Story, SegmentLog, Segment, Group, Act, MakeLog, SyncDirectory, SyncLog, point_of, handed, published, new_log}
+use Rattle.keel_recovery.specs.Calls.{Answer, point_handed, next_chained, IsNext, CanGrow, grown}
 use Rattle.keel_recovery.specs.Chains.{Chained, is_chained}
 use Rattle.keel_recovery.specs.Keeping.{Keeps}
-use Rattle.keel_recovery.specs.Machine.{calls_from_append, AwaitsAppend, AwaitsSync, HasMade, ops_waiting, AreOnTheirWay, UnlessStopped, NoLogYet, HasLog}
+use Rattle.keel_recovery.specs.Machine.{calls_from_append, ops_waiting, AreOnTheirWay, UnlessStopped, NoLogYet, HasLog}
 use Rattle.keel_recovery.proofs.Framing.{frame_keeps, free_pass}
 use Rattle.keel_recovery.proofs.Growing.{create_makes, sync_dir_keeps, log_append_keeps, log_sync_keeps, publish_keeps}
 use Rattle.keel_recovery.proofs.Numbering.{folded_append, seq_folded}

@@ -1,6 +1,6 @@
 -- Calls that nothing kept needs.
 use Rattle.std.specs.List.{AllByRecursion}
-use Rattle.std.proofs.Common.{◌≡◌, ◌≢◌, ◌⊎◌, inl, inr, ⊎_elim, ℕ, ◌+◌, ◌<◌, ◌≤◌, ◌==◌, ◌||◌, Bool, true, false, List, [], ◌∷◌, ◌++◌, length, take, Option, Some, None, Ok, Err, refl, sym, ap, subst, ◌∙◌, arith, if◌then◌else◌, take_all, eqb, eqb-true, eq-eqb}
+use Rattle.std.proofs.Common.{◌≡◌, inl, inr, ℕ, ◌<◌, ◌≤◌, Bool, true, false, List, [], ◌∷◌, length, take, Option, Some, None, refl, sym, ap, subst, ◌∙◌, arith, if◌then◌else◌, take_all, eqb}
 use Rattle.keel_base.specs.declared.file_name.FileName.{FileName}
 use Rattle.keel_base.specs.declared.file_name.FileName.TheVariants.{Log}
 use Rattle.keel_base.specs.Points.{Point}
@@ -8,27 +8,25 @@ use Rattle.keel_base.specs.Name.{name_eq}
 use Rattle.keel_base.proofs.Names.{name_eq-true}
 use Rattle.keel_disk.specs.declared.change.Change.{Change}
 use Rattle.keel_disk.specs.declared.change.Change.TheVariants.{Create, Append, Sync, Rename, Remove, Cut, SyncDir}
-use Rattle.keel_disk.specs.declared.error.DiskError.{DiskError}
 use Rattle.keel_disk.specs.declared.state.File.{File}
 use Rattle.keel_disk.specs.declared.state.Operation.TheVariants.{Move}
 use Rattle.keel_disk.specs.Directory.{Named, find, unlinked, linked, linked_found, operated}
 use Rattle.keel_disk.specs.Sound.{IsOneToOne}
-use Rattle.keel_disk.specs.State.{State, file_at, new_file, settled_through}
+use Rattle.keel_disk.specs.State.{State, file_at}
 use Rattle.keel_disk.specs.Step.{DiskStep, synced, spoiled, cut_read}
-use Rattle.keel_disk.specs.Steady.{file_behind, Always, IsApart, IsHeld}
+use Rattle.keel_disk.specs.Steady.{Always, IsApart, IsHeld}
 use Rattle.keel_disk.proofs.Directories.{find-linked}
 use Rattle.keel_disk.proofs.Operating.{find-unlinked, find-linked_other, file_at-created}
 use Rattle.keel_disk.proofs.Owning.{either_false, find-unlinked_same}
 use Rattle.keel_disk.proofs.Reaching.{Reaches, reached}
 use Rattle.keel_disk.proofs.Steadily.{KeptBy, always_stays, absent_stays, steady_stays}
-use Rattle.keel_machine.specs.States.{Story}
 use Rattle.keel_reading.specs.Answers.{IsLog}
 use Rattle.keel_reading.specs.Logs.{log_bytes}
 use Rattle.keel_recovery.specs.Calls.{Answer, IsFree, IsOfFree, FrameKeeps}
 use Rattle.keel_recovery.specs.Chains.{Chained, is_chained, IsEmpty, OthersEmpty}
-use Rattle.keel_recovery.specs.Keeping.{IsFirmLog, AreLogs, IsBase, point_at, HoldStory, Keeps}
+use Rattle.keel_recovery.specs.Keeping.{IsFirmLog, AreLogs, IsBase, point_at}
 use Rattle.keel_recovery.proofs.Emptying.{empty_set, empty_operated}
-use Rattle.keel_recovery.proofs.Passing.{Passes, AllPass, chained_passes, differs_back, less_differs}
+use Rattle.keel_recovery.proofs.Passing.{AllPass, chained_passes, differs_back, less_differs}
 
 -- ---- the base
 

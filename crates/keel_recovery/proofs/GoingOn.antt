@@ -28,13 +28,13 @@ left_reads told story h =
     }
 
 -- behind a crash no store is open
-crashed_reads : (opens : Bool) (left : Leaving) (told : Told) (s : State) → left ≡ Crashed → opens ≡ false → KeptBy opens (is_left left) told.state s → ReadsOn told s.story
-crashed_reads true left told s is shut h = cc
+crashed_reads : (opens : Bool) (leaving : Leaving) (told : Told) (s : State) → leaving ≡ Crashed → opens ≡ false → KeptBy opens (is_left leaving) told.state s → ReadsOn told s.story
+crashed_reads true leaving told s is shut h = cc
 crashed_reads false Nothing told s is shut h = cc
 crashed_reads false Crashed told s is shut h = left_reads told s.story h
 crashed_reads false Left told s is shut h = left_reads told s.story h
 
-reads_by : (f : Footing) (left : Leaving) (told : Option Told) (s : State) → left ≡ s.mode.left → goes_on_from left f ≡ true → is_open s.mode.phase ≡ false → IsCoveredBy f s.mode told s → ReadsOnIn told s.story
+reads_by : (f : Footing) (leaving : Leaving) (told : Option Told) (s : State) → leaving ≡ s.mode.left → goes_on_from leaving f ≡ true → is_open s.mode.phase ≡ false → IsCoveredBy f s.mode told s → ReadsOnIn told s.story
 reads_by Unknown Nothing told s is goes shut h = cc
 reads_by Unknown Crashed told s is goes shut h = cc
 reads_by Unknown Left told s is goes shut h = cc

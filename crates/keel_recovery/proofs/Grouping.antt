@@ -1,6 +1,6 @@
 -- A group's call, answered Ok or failed, keeps what the store's logs hold.
 use Rattle.std.specs.Prelude.{is_some}
-use Rattle.std.proofs.Common.{◌≡◌, ⊎_elim, ℕ, ◌+◌, Bool, true, false, List, [], ◌∷◌, drop, Option, Some, None, refl, sym, ap, subst, ◌∙◌}
+use Rattle.std.proofs.Common.{◌≡◌, ⊎_elim, ℕ, Bool, true, false, List, [], ◌∷◌, drop, Option, Some, None, refl, sym, ap, subst, ◌∙◌}
 use Rattle.keel_base.specs.declared.failure.Failure.{Failure}
 use Rattle.keel_base.specs.declared.failure.Fault.{Fault}
 use Rattle.keel_base.specs.declared.op.Batch.{Batch}

@@ -1,14 +1,13 @@
 -- Calls on the last log, and the one that makes it firm.
 use Rattle.std.specs.List.{AllByRecursion}
-use Rattle.std.proofs.Common.{◌≡◌, ◌≢◌, ◌⊎◌, inl, inr, ⊎_elim, ℕ, ◌+◌, ◌-◌, ◌<◌, ◌≤◌, ◌==◌, ◌||◌, Bool, true, false, List, [], ◌∷◌, ◌++◌, length, take, drop, Option, Some, None, Result, Ok, Err, refl, sym, ap, subst, ◌∙◌, arith, if◌then◌else◌, eqb, eqb-true, eq-eqb, take_all, take-append-drop, set, get_or-set_other}
+use Rattle.std.proofs.Common.{◌≡◌, ◌≢◌, ℕ, ◌+◌, ◌-◌, ◌<◌, ◌≤◌, ◌||◌, Bool, true, false, List, [], ◌∷◌, ◌++◌, length, take, drop, Some, Ok, Err, refl, sym, ap, subst, ◌∙◌, arith, eqb, eqb-true, eq-eqb, take_all, take-append-drop, get_or-set_other}
 use Rattle.std.proofs.lemmas.List.{append_assoc, append-nil, length-append, length-drop, take-append-le, drop-append-le, get_or_push}
 use Rattle.keel_base.specs.Points.{Point, fold_batches}
-use Rattle.keel_base.specs.declared.file_name.FileName.{FileName}
 use Rattle.keel_base.specs.declared.file_name.FileName.TheVariants.{Log}
 use Rattle.keel_base.specs.declared.op.Op.{Op}
 use Rattle.keel_batch.specs.Batches.{payloads_behind, AreBatches}
 use Rattle.keel_disk.specs.declared.change.Change.{Change}
-use Rattle.keel_disk.specs.declared.change.Change.TheVariants.{Create, Append, Sync, SyncDir}
+use Rattle.keel_disk.specs.declared.change.Change.TheVariants.{Append, Sync, SyncDir}
 use Rattle.keel_disk.specs.declared.error.DiskError.TheVariants as error
 use Rattle.keel_disk.specs.declared.state.File.{File}
 use Rattle.keel_disk.specs.declared.state.Operation.TheVariants.{Link}
@@ -16,7 +15,7 @@ use Rattle.keel_disk.specs.Directory.{find}
 use Rattle.keel_disk.specs.Sound.{IsOneToOne}
 use Rattle.keel_disk.specs.State.{State, file_at, new_file, settled_through, directory_read}
 use Rattle.keel_disk.specs.Step.{DiskStep, done, created, extended, spoiled, synced, with_file}
-use Rattle.keel_disk.specs.Steady.{file_behind, IsApart, IsSteady, IsPresent, IsGoing, IsFirmWhole}
+use Rattle.keel_disk.specs.Steady.{IsApart, IsSteady, IsGoing}
 use Rattle.keel_disk.proofs.Directories.{find-linked}
 use Rattle.keel_disk.proofs.Owning.{either_false}
 use Rattle.keel_disk.proofs.Operating.{other_file, read-more, cut-append}
@@ -26,12 +25,12 @@ use Rattle.keel_frag.proofs.Continuing.{going_on}
 use Rattle.keel_machine.specs.Admission.{count_ops}
 use Rattle.keel_machine.specs.States.{Story, handed, published}
 use Rattle.keel_recovery.specs.Calls.{Answer, ByAnswer, IsNewLog, CreateMakes, point_handed, next_chained, IsNext, AllWhole, CanGrow, SyncDirKeeps, grown, LogAppendKeeps, LogSyncKeeps, PublishKeeps}
-use Rattle.keel_recovery.specs.Chains.{Chained, payloads, size_of_first, batches_of, FollowOn, is_chained, HoldsRecords, HoldsBatches, IsWholeLog, IsGoingLog, AreChained, IsEmpty, OthersEmpty}
+use Rattle.keel_recovery.specs.Chains.{Chained, payloads, size_of_first, batches_of, FollowOn, is_chained, HoldsRecords, HoldsBatches, IsGoingLog, AreChained, IsEmpty, OthersEmpty}
 use Rattle.keel_recovery.specs.Keeping.{IsBase, point_at, HoldStory, Keeps}
 use Rattle.keel_recovery.proofs.Framing.{base_stays, others_pass, frame_keeps}
 use Rattle.keel_recovery.proofs.Numbering.{folded_append, seq_folded, batches_append, payloads_append, payloads_length}
 use Rattle.keel_recovery.proofs.Parting.{counted_append}
-use Rattle.keel_recovery.proofs.Passing.{AllPass, all_whole_pass, chained_passes, chained_last, last_holds, front_below, chained_push, take_length, less_differs, differs_back, same_file, going_passes}
+use Rattle.keel_recovery.proofs.Passing.{AllPass, all_whole_pass, chained_last, last_holds, front_below, chained_push, take_length, less_differs, differs_back, same_file}
 
 -- ---- batches of a chain
 

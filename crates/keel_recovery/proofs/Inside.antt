@@ -6,7 +6,7 @@ use Rattle.keel_disk.specs.Step.{done}
 use Rattle.keel_disk.specs.Plain.{PlainImage}
 use Rattle.keel_disk.proofs.CrashViews.{mid_plain}
 use Rattle.keel_recovery.specs.Laws.{CallLeavesPrefix}
-use Rattle.keel_recovery.specs.Standing.{ReadsIn, Stands}
+use Rattle.keel_recovery.specs.Standing.{ReadsIn}
 
 pub call_leaves_prefix : CallLeavesPrefix
 call_leaves_prefix state change before behind was next = λ image mid. ⊎_elim (λ plain. inl (was.images image plain)) (by image (done change state) refl) (mid_plain state change image mid)

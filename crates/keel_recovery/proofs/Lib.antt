@@ -23,3 +23,5 @@ pub mod Readable
 pub mod GoingOn
 pub mod Machine
 pub mod Forging
+pub mod InsideStep
+pub mod Examples

@@ -1,12 +1,8 @@
 -- Every turn of the machine keeps its device covered.
-use Rattle.std.specs.Prelude.{nat_lt, nat_le}
-use Rattle.std.proofs.Common.{◌≡◌, ◌≢◌, ℕ, ◌+◌, ◌^◌, ◌≤◌, ◌||◌, Bool, true, false, List, [], ◌∷◌, ◌++◌, length, Option, Some, None, option_map, Ok, Err, refl, sym, ap, subst, ◌∙◌, ltb-false, arith}
-use Rattle.keel_base.specs.Name.{IsName}
-use Rattle.keel_base.specs.Points.{Point}
-use Rattle.keel_base.specs.declared.failure.Counter.TheVariants.{Sequence, Ticket}
+use Rattle.std.proofs.Common.{◌≡◌, ℕ, ◌+◌, ◌^◌, ◌≤◌, ◌||◌, Bool, true, false, List, [], ◌∷◌, ◌++◌, length, Option, Some, None, Ok, Err, refl, sym, ap, subst, ◌∙◌, ltb-false, arith}
+use Rattle.keel_base.specs.declared.failure.Counter.TheVariants.{Sequence}
 use Rattle.keel_base.specs.declared.failure.Failure.{Failure}
 use Rattle.keel_base.specs.declared.failure.Fault.{Fault}
-use Rattle.keel_base.specs.declared.file_name.FileName.TheVariants.{Log}
 use Rattle.keel_base.specs.declared.op.Batch.{Batch}
 use Rattle.keel_base.specs.declared.op.Op.{Op}
 use Rattle.keel_batch.specs.Batches.{AreBatches}
@@ -79,17 +75,17 @@ OpenBy Unknown told s = Unit {0}
 OpenBy Known None s = ⊥
 OpenBy Known (Some told) s = IsKept told.state s
 
-as_open : (f : Footing) (phase : Phase) (left : Leaving) (told : Option Told) (s : State) → is_open phase ≡ true → IsCoveredBy f (record { phase = phase; left = left }) told s → OpenBy f told s
-as_open f Shut left told s is h = cc
-as_open Unknown Open left told s is h = tt
-as_open Known Open left None s is h = h
-as_open Known Open left (Some told) s is h = h
+as_open : (f : Footing) (phase : Phase) (leaving : Leaving) (told : Option Told) (s : State) → is_open phase ≡ true → IsCoveredBy f (record { phase = phase; left = leaving }) told s → OpenBy f told s
+as_open f Shut leaving told s is h = cc
+as_open Unknown Open leaving told s is h = tt
+as_open Known Open leaving None s is h = h
+as_open Known Open leaving (Some told) s is h = h
 
-of_open : (f : Footing) (phase : Phase) (left : Leaving) (told : Option Told) (s : State) → is_open phase ≡ true → OpenBy f told s → IsCoveredBy f (record { phase = phase; left = left }) told s
-of_open f Shut left told s is h = cc
-of_open Unknown Open left told s is h = tt
-of_open Known Open left None s is h = h
-of_open Known Open left (Some told) s is h = h
+of_open : (f : Footing) (phase : Phase) (leaving : Leaving) (told : Option Told) (s : State) → is_open phase ≡ true → OpenBy f told s → IsCoveredBy f (record { phase = phase; left = leaving }) told s
+of_open f Shut leaving told s is h = cc
+of_open Unknown Open leaving told s is h = tt
+of_open Known Open leaving None s is h = h
+of_open Known Open leaving (Some told) s is h = h
 
 pub covered_open : (s : State) → is_open s.mode.phase ≡ true → IsCovered s → OpenBy s.footing s.device.told s
 covered_open s is h = as_open s.footing s.mode.phase s.mode.left s.device.told s is h
@@ -381,10 +377,10 @@ opened_kept told found story s device rest after stands cause runs is =
     }
 
 -- where no store is open
-shut_opened : (f : Footing) (left : Leaving) (told : Told) (s : State) (found : Found) (device : Seen) → f ≡ s.footing → left ≡ s.mode.left → f ≡ Known
-    → ReadAnswers (Some told) (Ok found) → RunsOn found → KeptBy false (is_left left) told.state s
+shut_opened : (f : Footing) (leaving : Leaving) (told : Told) (s : State) (found : Found) (device : Seen) → f ≡ s.footing → leaving ≡ s.mode.left → f ≡ Known
+    → ReadAnswers (Some told) (Ok found) → RunsOn found → KeptBy false (is_left leaving) told.state s
     → IsKept told.state (with_device device (opened found s))
-shut_opened Unknown left told s found device footing is known cause runs h = cc
+shut_opened Unknown leaving told s found device footing is known cause runs h = cc
 shut_opened Known Nothing told s found device footing is known cause runs h =
     let story = new_story (point_found found) in
     opened_kept told found story s device h (record { none_in_limbo = refl; all_stay = refl })
@@ -409,10 +405,10 @@ opened_by Known None s found device footing shut cause runs h = h
 opened_by Known (Some told) s found device footing shut cause runs h =
     shut_opened Known s.mode.left told s found device footing refl refl cause runs (shut_kept (is_open s.mode.phase) (is_left s.mode.left) told s shut h)
 
-as_covered : (f : Footing) (left : Leaving) (told : Option Told) (next : State) → OpenBy f told next → IsCoveredBy f (record { phase = Open; left = left }) told next
-as_covered Unknown left told next h = tt
-as_covered Known left None next h = h
-as_covered Known left (Some told) next h = h
+as_covered : (f : Footing) (leaving : Leaving) (told : Option Told) (next : State) → OpenBy f told next → IsCoveredBy f (record { phase = Open; left = leaving }) told next
+as_covered Unknown leaving told next h = tt
+as_covered Known leaving None next h = h
+as_covered Known leaving (Some told) next h = h
 
 open_keeps : (s : State) (found : Found) (device : Seen) → is_open s.mode.phase ≡ false → OpenAnswers s (Ok found) device → IsCovered s → IsCovered (with_device device (opened found s))
 open_keeps s found device shut a h =

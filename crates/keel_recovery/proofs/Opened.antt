@@ -12,7 +12,7 @@ use Rattle.keel_disk.specs.Directory.{Named, find, operated_all}
 use Rattle.keel_disk.specs.State.{State, file_at, has_waiting_cut}
 use Rattle.keel_disk.specs.Image.{AllFirm}
 use Rattle.keel_disk.specs.Plain.{bytes_read, image_read}
-use Rattle.keel_disk.specs.Sound.{AreOwn, IsAtRest}
+use Rattle.keel_disk.specs.Sound.{IsAtRest}
 use Rattle.keel_disk.specs.Steady.{Always, IsHeld}
 use Rattle.keel_disk.proofs.Imaging.{read_found}
 use Rattle.keel_disk.proofs.Resting.{rest_has_one}

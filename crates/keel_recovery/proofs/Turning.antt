@@ -9,15 +9,15 @@ use Rattle.keel_base.specs.declared.op.Op.{Op}
 use Rattle.keel_batch.specs.Batches.{AreBatches}
 use Rattle.keel_batch.specs.Spelling.{IsBatch}
 use Rattle.keel_disk.specs.State.{State as Disk}
-use Rattle.keel_base.specs.declared.failure.Counter.TheVariants.{FileNumber, JobNumber}
+use Rattle.keel_base.specs.declared.failure.Counter.TheVariants.{FileNumber}
 use Rattle.keel_machine.specs.declared.steps.WriteStep.{WriteStep}
 use Rattle.keel_machine.specs.declared.steps.WriteStep.TheVariants.{Idle, Spent}
 use Rattle.keel_machine.specs.Admission.{stopping, ops_of, count_ops, batches_of_group}
 use Rattle.keel_group.specs.Queue.{Ticketed, tickets_of, batches_of}
 use Rattle.keel_group.specs.Forming.{next_size, next_batches, wants_sync}
 use Rattle.keel_machine.specs.States.{State, Story, SegmentLog, Segment, Group, Act, MakeLog, newest_log, active_log, left_of, point_of}
-use Rattle.keel_machine.specs.Tests.{first_some, when, differing}
-use Rattle.keel_machine.specs.Writing.{group_plan, nothing_made, formed, started, started_or, ready, turned_away, is_nobody_waiting, is_job_spent, is_file_spent, draws, rests_before_group, rests_of, cancelled, write_rest}
+use Rattle.keel_machine.specs.Tests.{first_some, differing}
+use Rattle.keel_machine.specs.Writing.{group_plan, nothing_made, formed, started, started_or, ready, turned_away, is_nobody_waiting, is_file_spent, draws, rests_before_group, rests_of, cancelled, write_rest}
 use Rattle.keel_machine.proofs.FirstTests.{none_some, none_first, none_later, none_mapped, none_when, none_of}
 use Rattle.keel_recovery.specs.Calls.{AllWhole, CanGrow}
 use Rattle.keel_recovery.specs.Machine.{ops_waiting, AtMaking, AtWriting, AreOnTheirWay, UnlessStopped, HoldsBy, IsStored}

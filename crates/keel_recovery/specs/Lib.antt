@@ -6,3 +6,4 @@ pub mod Calls
 pub mod Crashing
 pub mod Laws
 pub mod Machine
+pub mod Worked

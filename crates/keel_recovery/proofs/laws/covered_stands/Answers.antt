@@ -1,0 +1,5 @@
+use Rattle.keel_recovery.proofs.Machine.{covered_stands}
+use Rattle.keel_recovery.proofs.laws.covered_stands.Goals as goal
+
+pub returns : goal.returns
+returns c = covered_stands
