@@ -8,3 +8,8 @@ pub mod Owning
 pub mod Resting
 pub mod SoundFiles
 pub mod SoundSteps
+pub mod Operating
+pub mod Reaching
+pub mod Steadily
+pub mod Imaging
+pub mod Staying

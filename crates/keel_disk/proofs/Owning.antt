@@ -19,7 +19,7 @@ find-unlinked_none name other (entry ∷ rest) none =
           ]
     ] refl none
 
-find-unlinked_same : (name : FileName) (directory : Named ℕ) → find name (unlinked name directory) ≡ None
+pub find-unlinked_same : (name : FileName) (directory : Named ℕ) → find name (unlinked name directory) ≡ None
 find-unlinked_same name [] = refl
 find-unlinked_same name (entry ∷ rest) =
     elim (name_eq entry.0 name) as (λ b. name_eq entry.0 name ≡ b → find name (if b then unlinked name rest else entry ∷ unlinked name rest) ≡ None) [
@@ -27,7 +27,7 @@ find-unlinked_same name (entry ∷ rest) =
       | false ↦ λ differs. rw differs (find-unlinked_same name rest)
     ] refl
 
-either_false : (a b : Bool) → (a || b) ≡ false → (a ≡ false) × (b ≡ false)
+pub either_false : (a b : Bool) → (a || b) ≡ false → (a ≡ false) × (b ≡ false)
 either_false true b h = cc
 either_false false b h = (refl, h)
 
@@ -96,7 +96,7 @@ own-link bound name directory named own =
     (has_number-unlinked bound name directory (unnamed bound bound directory (omega arith) own))
     (own-more bound (bound + 1) directory (omega arith) own)
 
-has_number-found : (name : FileName) (number : ℕ) (directory : Named ℕ) → find name directory ≡ Some number → has_number number directory ≡ true
+pub has_number-found : (name : FileName) (number : ℕ) (directory : Named ℕ) → find name directory ≡ Some number → has_number number directory ≡ true
 has_number-found name number [] found = cc
 has_number-found name number (entry ∷ rest) found =
     elim (name_eq entry.0 name) as (λ b. (if b then Some entry.1 else find name rest) ≡ Some number → has_number number (entry ∷ rest) ≡ true) [

@@ -39,7 +39,7 @@ done_first : (count : ℕ) (waiting : List Operation) (operation : Operation) �
 done_first count waiting operation more = take_all count (waiting ++ operation ∷ []) (omega (arith, length-append waiting (operation ∷ [])))
 
 -- one operation more waits
-own-waiting : (bound more count : ℕ) (waiting : List Operation) (operation : Operation) (firm : Named ℕ) → bound ≤ more
+pub own-waiting : (bound more count : ℕ) (waiting : List Operation) (operation : Operation) (firm : Named ℕ) → bound ≤ more
     → ((k : ℕ) → AreOwn bound (operated_all (take k waiting) firm)) → (AreOwn bound (operated_all waiting firm) → AreOwn more (operated operation (operated_all waiting firm)))
     → AreOwn more (operated_all (take count (waiting ++ operation ∷ [])) firm)
 own-waiting bound more count waiting operation firm le own step =

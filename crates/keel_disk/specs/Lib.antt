@@ -11,4 +11,5 @@ pub mod Told
 pub mod Files
 pub mod Rule
 pub mod Seen
+pub mod Steady
 pub mod Laws

@@ -1,2 +1,2 @@
-mod FirstTests
-mod Stopping
+pub mod FirstTests
+pub mod Stopping

@@ -1,5 +1,5 @@
 -- A crash of the machine's device.
-use Rattle.std.proofs.Common.{◌≡◌, ⊎_elim, ℕ, ◌≤◌, true, List, [], ◌++◌, length, take, Option, Some, None, Ok, refl, sym, ap, subst, ◌∙◌, arith, take_all}
+use Rattle.std.proofs.Common.{◌≡◌, ⊎_elim, ℕ, ◌≤◌, ◌||◌, Bool, true, false, if◌then◌else◌, List, [], ◌++◌, length, take, Option, Some, None, Ok, refl, sym, ap, subst, ◌∙◌, arith, take_all}
 use Rattle.std.proofs.lemmas.List.{append-nil, length-append, length-take}
 use Rattle.keel_base.specs.Points.{fold_batches}
 use Rattle.keel_base.specs.declared.memory.OutOfMemory.{OutOfMemory}
@@ -11,12 +11,12 @@ use Rattle.keel_disk.specs.Sound.{IsOneToOne, IsAtRest}
 use Rattle.keel_disk.specs.Told.{Told, Crashes, CrashedTo}
 use Rattle.keel_disk.specs.declared.rule.Pick.{Pick}
 use Rattle.keel_disk.specs.Seen.{Seen}
-use Rattle.keel_machine.specs.Crash.{LeavesPlain, IsPrefix, LeavesOf, Leaves, CrashAnswers, mode_crashed, crash_after}
-use Rattle.keel_machine.specs.States.{State, Footing, Known, Unknown, Mode, Unopened, Closed, Open, Story, cut_story, point_of, with_device}
+use Rattle.keel_machine.specs.Crash.{has_story, LeavesPlain, IsPrefix, LeavesOf, Leaves, CrashAnswers, mode_crashed, crash_after}
+use Rattle.keel_machine.specs.States.{State, Footing, Known, Unknown, Nothing, Crashed, is_open, is_left, Story, cut_story, point_of, with_device}
 use Rattle.keel_reading.specs.Reading.{Reads}
-use Rattle.keel_recovery.specs.Machine.{stage_of, IsLeft, HoldsBy, IsCoveredBy, IsCovered, CrashTurns}
+use Rattle.keel_recovery.specs.Machine.{IsLeft, KeptBy, IsCoveredBy, IsCovered, CrashTurns}
 use Rattle.keel_recovery.specs.Standing.{ReadsIn, Stands}
-use Rattle.keel_recovery.proofs.Covers.{stands}
+use Rattle.keel_recovery.proofs.Kept.{kept_stands}
 use Rattle.keel_recovery.proofs.Crashed.{reading_leaves}
 use Rattle.keel_recovery.proofs.Opened.{rest_stands}
 use Rattle.keel_recovery.proofs.Restarted.{rests_behind}
@@ -44,11 +44,13 @@ prefix_left state count story rest is =
 plain_rests : (before after : Told) → IsOneToOne before.state → LeavesPlain before after → IsAtRest after.state
 plain_rests before after one left = subst IsAtRest (sym left.leaves) (rests_behind before.state left.image one (left.plain.0, left.plain.1.0))
 
-crash_holds : (m : Mode) (count : ℕ) (s : State) (before after : Told) (device : Seen) → m ≡ s.mode → LeavesPlain before after → LeavesOf m count s.story (image_read after.state)
-    → HoldsBy m before.state s → HoldsBy (mode_crashed m) after.state (with_device device (crash_after s (Some count)))
-crash_holds Unopened count s before after device mode left of h = plain_rests before after h.sound.one_to_one left
-crash_holds Closed count s before after device mode left of h = prefix_left after.state count s.story (plain_rests before after h.at_rest.sound.one_to_one left) of
-crash_holds Open count s before after device mode left of h = prefix_left after.state count s.story (plain_rests before after h.one_to_one left) of
+-- what is kept of an open store, of one that was left, and where there is no story
+crash_kept : (opens left : Bool) (count : ℕ) (s : State) (before after : Told) (device : Seen) → LeavesPlain before after → LeavesOf (opens || left) count s.story (image_read after.state)
+    → KeptBy opens left before.state s
+    → KeptBy false (is_left (if opens || left then Crashed else Nothing)) after.state (with_device device (crash_after s (Some count)))
+crash_kept false false count s before after device plain of h = plain_rests before after h.sound.one_to_one plain
+crash_kept false true count s before after device plain of h = prefix_left after.state count s.story (plain_rests before after h.at_rest.sound.one_to_one plain) of
+crash_kept true left count s before after device plain of h = prefix_left after.state count s.story (plain_rests before after h.one_to_one plain) of
 
 crash_by : (f : Footing) (before after : Option Told) (kept : Option ℕ) (s : State) (device : Seen) → f ≡ s.footing → Leaves f s.mode s.story before kept after
     → IsCoveredBy f s.mode before s
@@ -56,7 +58,7 @@ crash_by : (f : Footing) (before after : Option Told) (kept : Option ℕ) (s : S
 crash_by f before after None s device footing left h = tt
 crash_by Known (Some before) (Some after) (Some count) s device footing left h =
     subst (λ (g : Footing). IsCoveredBy g (mode_crashed s.mode) (Some after) (with_device device (crash_after s (Some count)))) footing
-    (crash_holds s.mode count s before after device refl left.0 left.1 h)
+    (crash_kept (is_open s.mode.phase) (is_left s.mode.left) count s before after device left.0 left.1 h)
 crash_by Known None (Some after) (Some count) s device footing left h = absurd left
 crash_by Known None None (Some count) s device footing left h = absurd left
 crash_by Known (Some before) None (Some count) s device footing left h = absurd left
@@ -80,23 +82,22 @@ stands_prefix before story image one stands plain =
     let point : now.0 ≡ point_of cut = at.point_is ∙ ap (fold_batches story.start) whole in
     (left.count, record { not_lost = left.not_lost; within = left.within; reads = subst (Reads (image_read (restarted image))) point now.1 })
 
-left_of : (m : Mode) (s : State) (before : Told) (image : Named (List ℕ)) → HoldsBy m before.state s → PlainImage before.state image
-    → (count : ℕ) × LeavesOf m count s.story (image_read (restarted image))
-left_of Unopened s before image h plain = (0, tt)
-left_of Closed s before image h plain = stands_prefix before.state s.story image h.at_rest.sound.one_to_one h.stands plain
-left_of Open s before image h plain =
-    stands_prefix before.state s.story image h.one_to_one (stands _ h.covered.trail (stage_of s) before.state s.story h.covered.covered) plain
+left_of : (opens left : Bool) (s : State) (before : Told) (image : Named (List ℕ)) → KeptBy opens left before.state s → PlainImage before.state image
+    → (count : ℕ) × LeavesOf (opens || left) count s.story (image_read (restarted image))
+left_of false false s before image h plain = (0, tt)
+left_of false true s before image h plain = stands_prefix before.state s.story image h.at_rest.sound.one_to_one h.stands plain
+left_of true left s before image h plain = stands_prefix before.state s.story image h.one_to_one (kept_stands before.state s h) plain
 
-known_left : (s : State) (before after : Told) → HoldsBy s.mode before.state s → CrashedTo before after
+known_left : (s : State) (before after : Told) → KeptBy (is_open s.mode.phase) (is_left s.mode.left) before.state s → CrashedTo before after
     → (kept : Option ℕ) × Leaves Known s.mode s.story (Some before) kept (Some after)
 known_left s before after h crashed = ⊎_elim
     (λ plain.
     let image : PlainImage before.state crashed.image = (crashed.count, (crashed.is_image, plain.0)) in
-    let left = left_of s.mode s before crashed.image h image in (
+    let left = left_of (is_open s.mode.phase) (is_left s.mode.left) s before crashed.image h image in (
       Some left.0,
       (
         record { image = crashed.image; plain = image; leaves = crashed.leaves; last = crashed.last_same; forged = plain.1 },
-        subst (λ (d : Disk). LeavesOf s.mode left.0 s.story (image_read d)) (sym crashed.leaves) left.1,
+        subst (λ (d : Disk). LeavesOf (has_story s.mode) left.0 s.story (image_read d)) (sym crashed.leaves) left.1,
       ),
     ))
     (λ forged. (None, record { crashed = crashed; counted = forged.1 }))

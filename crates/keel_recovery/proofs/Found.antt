@@ -1,5 +1,5 @@
 -- What an opening finds, behind a crash or without one.
-use Rattle.std.proofs.Common.{◌≡◌, ℕ, ◌+◌, ◌-◌, ◌≤◌, List, ◌++◌, length, take, drop, sym, ap, ◌∙◌, arith, take-append-drop}
+use Rattle.std.proofs.Common.{◌≡◌, ℕ, ◌+◌, ◌-◌, ◌≤◌, List, [], ◌++◌, length, take, drop, sym, ap, subst, ◌∙◌, arith, take-append-drop}
 use Rattle.std.proofs.lemmas.List.{append_assoc, length-append, length-take}
 use Rattle.std.proofs.Math.Seq.{take-append-add}
 use Rattle.keel_base.specs.Points.{Point, fold_batches}
@@ -8,17 +8,25 @@ use Rattle.keel_disk.specs.Image.{restarted}
 use Rattle.keel_disk.specs.Plain.{image_read}
 use Rattle.keel_machine.specs.States.{Story, cut_story}
 use Rattle.keel_recovery.specs.Crashing.{moved_story}
+use Rattle.keel_recovery.specs.Keeping.{Keeps}
 use Rattle.keel_recovery.specs.Laws.{OpeningFindsPrefix, OpeningFindsPublished}
 use Rattle.keel_recovery.specs.Standing.{InPrefixes}
 use Rattle.keel_recovery.proofs.Crashed.{crash_leaves}
 use Rattle.keel_reading.proofs.OneReading.{reads_once}
-use Rattle.keel_recovery.proofs.Opened.{opened_covers}
+use Rattle.keel_recovery.proofs.Opened.{opening_keeps, read_story}
 
 pub finds_prefix : OpeningFindsPrefix
 finds_prefix state story image number point sound stands plain reads =
     let left = crash_leaves state story image sound stands plain in
-    let covered = opened_covers (restarted image) number point (cut_story left.count story) left.at_rest reads left.after_crash left.stands in
-    record { count = left.count; not_lost = left.not_lost; within = left.within; point_is = covered.fits.point_is; covered = covered }
+    let cut = cut_story left.count story in
+    let size : length cut.log ≡ left.count = sym left.after_crash.all_stay in
+    record {
+      count = left.count;
+      not_lost = left.not_lost;
+      within = left.within;
+      point_is = read_story (restarted image) number point cut reads left.after_crash left.stands;
+      kept = subst (λ (n : ℕ). Keeps n number [] cut (restarted image)) size (opening_keeps (restarted image) number point cut left.at_rest reads left.after_crash left.stands);
+    }
 
 all_stay : (count : ℕ) (log limbo : List (List Op)) → (log ++ take count limbo) ++ drop count limbo ≡ log ++ limbo
 all_stay count log limbo = append_assoc log (take count limbo) (drop count limbo) ∙ ap (λ (l : List (List Op)). log ++ l) (take-append-drop count limbo)

@@ -1,18 +1,18 @@
 -- An opening that goes on with a story.
-use Rattle.std.proofs.Common.{◌≡◌, true, List, ◌++◌, take, Option, Some, None, Err, ap, subst, ◌∙◌, take_all}
+use Rattle.std.proofs.Common.{◌≡◌, Bool, true, false, refl, sym, List, ◌++◌, take, Option, Some, None, Err, ap, subst, ◌∙◌, take_all}
 use Rattle.std.proofs.lemmas.List.{append-nil}
 use Rattle.keel_base.specs.Points.{fold_batches}
 use Rattle.keel_base.specs.declared.op.Op.{Op}
 use Rattle.keel_disk.specs.Told.{Told}
 use Rattle.keel_disk.specs.Plain.{image_read}
-use Rattle.keel_machine.specs.Opening.{continues}
-use Rattle.keel_machine.specs.States.{State, Footing, Known, Unknown, Mode, Unopened, Closed, Open, Story, point_of}
+use Rattle.keel_machine.specs.Opening.{goes_on_from}
+use Rattle.keel_machine.specs.States.{State, Footing, Known, Unknown, Leaving, Nothing, Crashed, Left, is_open, is_left, Story, point_of}
 use Rattle.keel_reading.specs.declared.refusal.OpenRefusal.{OpenRefusal}
 use Rattle.keel_reading.specs.declared.refusal.OpenRefusal.TheVariants as refusal
 use Rattle.keel_reading.specs.Answers.{ReadAnswers, NamesOther}
 use Rattle.keel_reading.specs.Reading.{Reads}
 use Rattle.keel_reading.proofs.Founding.{sound_names}
-use Rattle.keel_recovery.specs.Machine.{IsLeft, IsCoveredBy, ReadsOn, ReadsOnIn, CoveredReads, IsOfDevice, OpeningGoesOn}
+use Rattle.keel_recovery.specs.Machine.{IsLeft, KeptBy, IsCoveredBy, ReadsOn, ReadsOnIn, CoveredReads, IsOfDevice, OpeningGoesOn}
 use Rattle.keel_recovery.proofs.Readable.{no_bad_log, no_gap, no_other}
 
 left_reads : (told : Told) (story : Story) → IsLeft told.state story → ReadsOn told story
@@ -27,17 +27,24 @@ left_reads told story h =
       after_crash = h.after_crash;
     }
 
-reads_by : (f : Footing) (m : Mode) (told : Option Told) (s : State) → continues m f ≡ true → IsCoveredBy f m told s → ReadsOnIn told s.story
-reads_by Unknown Unopened told s goes h = cc
-reads_by Unknown Closed told s goes h = cc
-reads_by Unknown Open told s goes h = cc
-reads_by Known Unopened told s goes h = cc
-reads_by Known Open told s goes h = cc
-reads_by Known Closed None s goes h = h
-reads_by Known Closed (Some told) s goes h = left_reads told s.story h
+-- behind a crash no store is open
+crashed_reads : (opens : Bool) (leaving : Leaving) (told : Told) (s : State) → leaving ≡ Crashed → opens ≡ false → KeptBy opens (is_left leaving) told.state s → ReadsOn told s.story
+crashed_reads true leaving told s is shut h = cc
+crashed_reads false Nothing told s is shut h = cc
+crashed_reads false Crashed told s is shut h = left_reads told s.story h
+crashed_reads false Left told s is shut h = left_reads told s.story h
+
+reads_by : (f : Footing) (leaving : Leaving) (told : Option Told) (s : State) → leaving ≡ s.mode.left → goes_on_from leaving f ≡ true → is_open s.mode.phase ≡ false → IsCoveredBy f s.mode told s → ReadsOnIn told s.story
+reads_by Unknown Nothing told s is goes shut h = cc
+reads_by Unknown Crashed told s is goes shut h = cc
+reads_by Unknown Left told s is goes shut h = cc
+reads_by Known Nothing told s is goes shut h = cc
+reads_by Known Left told s is goes shut h = cc
+reads_by Known Crashed None s is goes shut h = h
+reads_by Known Crashed (Some told) s is goes shut h = crashed_reads (is_open s.mode.phase) s.mode.left told s (sym is) shut h
 
 pub covered_reads : CoveredReads
-covered_reads s goes h = reads_by s.footing s.mode s.device.told s goes h
+covered_reads s shut goes h = reads_by s.footing s.mode.left s.device.told s refl goes shut h
 
 -- ---- what refuses it
 
@@ -54,4 +61,4 @@ refused_for None story refused_by reads cause other = absurd reads
 refused_for (Some told) story refused_by reads cause other = not_refused told story refused_by reads cause other
 
 pub opening_goes_on : OpeningGoesOn
-opening_goes_on s refused_by device goes h answers = refused_for s.device.told s.story refused_by (covered_reads s goes h) answers.cause answers.other
+opening_goes_on s refused_by device shut goes h answers = refused_for s.device.told s.story refused_by (covered_reads s shut goes h) answers.cause answers.other

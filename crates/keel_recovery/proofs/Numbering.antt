@@ -1,17 +1,16 @@
 -- Batches that are numbered on.
 use Rattle.std.proofs.Common.{◌≡◌, ℕ, zero, suc, ◌+◌, ◌-◌, List, [], ◌∷◌, ◌++◌, length, map, take, Result, Ok, Err, refl, ap, subst, ◌∙◌, arith}
 use Rattle.keel_base.specs.Points.{Point, after_batch, fold_batches}
-use Rattle.keel_base.specs.declared.op.Batch.{Batch}
 use Rattle.keel_base.specs.declared.op.Op.{Op}
 use Rattle.keel_batch.specs.declared.batch.Numbered.{Numbered as Found}
 use Rattle.keel_batch.specs.declared.batch.BatchError.TheVariants as errors
 use Rattle.keel_batch.specs.Spelling.{spelling, IsBatch}
 use Rattle.keel_batch.specs.Reading.{batch_of}
 use Rattle.keel_batch.proofs.Laws.{decoded_only}
-use Rattle.keel_machine.specs.Admission.{ops_of as ops_of_batches, count_ops as count}
-use Rattle.keel_machine.specs.Writing.{payloads_from}
+use Rattle.keel_machine.specs.Admission.{count_ops as count}
 use Rattle.keel_reading.specs.Logs.{Numbered, ops_of, all_read, RunOn, count_ops}
-use Rattle.keel_recovery.specs.Batches.{numbered, payloads_behind, AreBatches}
+use Rattle.keel_batch.specs.Batches.{payloads_behind, AreBatches}
+use Rattle.keel_recovery.specs.Batches.{numbered}
 
 pub folded_append : (point : Point) (front rest : List (List Op)) → fold_batches point (front ++ rest) ≡ fold_batches (fold_batches point front) rest
 folded_append point [] rest = refl
@@ -71,13 +70,6 @@ payloads_take (suc first) last (ops ∷ rest) = ap (λ (l : List (List ℕ)). sp
 pub payloads_length : (last : ℕ) (batches : List (List Op)) → length (payloads_behind last batches) ≡ length batches
 payloads_length last [] = refl
 payloads_length last (ops ∷ rest) = ap suc (payloads_length (last + length ops) rest)
-
--- as the machine writes them
-pub payloads_same : (last : ℕ) (batches : List Batch) → payloads_from (last + 1) batches ≡ payloads_behind last (ops_of_batches batches)
-payloads_same last [] = refl
-payloads_same last (batch ∷ rest) =
-    let e : last + 1 + length batch.ops ≡ last + length batch.ops + 1 = omega arith in
-    ap (λ (l : List (List ℕ)). spelling (last + 1) batch.ops ∷ l) (ap (λ (n : ℕ). payloads_from n rest) e ∙ payloads_same (last + length batch.ops) rest)
 
 -- what is spelled is read again
 pub read_again : (seq : ℕ) (ops : List Op) → IsBatch seq ops → batch_of (spelling seq ops) ≡ Ok (seq, ops)

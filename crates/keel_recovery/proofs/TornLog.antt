@@ -9,8 +9,9 @@ use Rattle.keel_frag.proofs.Existing.{has_records}
 use Rattle.keel_frag.proofs.TornRecords.{torn_records}
 use Rattle.keel_frag.proofs.Continuing.{payloads_stay}
 use Rattle.keel_reading.specs.Logs.{batches_in, all_read, Says}
-use Rattle.keel_recovery.specs.Batches.{numbered, payloads_behind, AreBatches}
-use Rattle.keel_recovery.specs.Covering.{size_of_first}
+use Rattle.keel_batch.specs.Batches.{payloads_behind, AreBatches}
+use Rattle.keel_recovery.specs.Batches.{numbered}
+use Rattle.keel_recovery.specs.Chains.{size_of_first}
 use Rattle.keel_recovery.proofs.Numbering.{batches_take, payloads_take, payloads_length, each_again}
 
 -- the bytes say the first so many of these batches

@@ -8,7 +8,7 @@ use Rattle.keel_disk.specs.Image.{restarted}
 use Rattle.keel_disk.specs.Plain.{PlainMid}
 use Rattle.keel_disk.specs.Sound.{IsAtRest}
 use Rattle.keel_machine.specs.States.{Story, cut_story, point_of}
-use Rattle.keel_recovery.specs.Covering.{NoLog, no_trail, Covered}
+use Rattle.keel_recovery.specs.Keeping.{Keeps}
 use Rattle.keel_recovery.specs.Standing.{ReadsIn, Stands}
 
 -- a story as a crash leaves it, or as a first opening begins it
@@ -25,13 +25,13 @@ pub record LeavesPrefix (image : Named (List ℕ)) (story : Story) : Type 0 wher
   pub after_crash : IsAfterCrash (cut_story count story)
   pub stands : Stands (restarted image) (cut_story count story)
 
--- An opening finds so many batches of the story, with all that must not be lost, and the store covers what it opened.
+-- An opening finds so many batches of the story, with all that must not be lost, and the device keeps what was found.
 pub record FindsPrefix (image : Named (List ℕ)) (story : Story) (number : ℕ) (point : Point) : Type 0 where
   pub count : ℕ
   pub not_lost : story.floor ≤ count
   pub within : count ≤ length story.log + length story.limbo
   pub point_is : point ≡ fold_batches story.start (take count (story.log ++ story.limbo))
-  pub covered : Covered point no_trail (NoLog number) (restarted image) (cut_story count story)
+  pub kept : Keeps count number [] (cut_story count story) (restarted image)
 
 -- the story in which the first so many batches of limbo count as published
 abbrev pub moved_story : ℕ → Story → Story

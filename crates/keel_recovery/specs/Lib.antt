@@ -1,8 +1,9 @@
 pub mod Standing
 pub mod Batches
-pub mod Covering
+pub mod Chains
+pub mod Keeping
+pub mod Calls
 pub mod Crashing
-pub mod Steps
 pub mod Laws
 pub mod Machine
 pub mod Worked

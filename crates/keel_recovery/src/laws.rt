@@ -1,18 +1,17 @@
-// What covering a device gives, each as the contract of a function: a proof that needs one calls it.
-ghost use Rattle.keel_recovery.specs.Laws.{CoveringStands, CrashLeavesPrefix, FirstOpening, OpeningCovers, OpeningFindsPrefix, OpeningFindsPublished, ReadingLeavesPrefix};
-ghost use Rattle.keel_recovery.specs.Laws.{AppendCovers, CreateCovers, PublishCovers, SyncCovers, SyncDirCovers};
-ghost use Rattle.keel_recovery.specs.Laws.{InsideAppend, InsideCreate, InsideSync, InsideSyncDir};
+// What a device keeps of a story, and what follows, each as the contract of a function: a proof that needs one calls it.
+ghost use Rattle.keel_recovery.specs.Laws.{CallLeavesPrefix, CrashLeavesPrefix, FirstOpening, KeepingStands, OpeningFindsPrefix, OpeningFindsPublished, OpeningKeeps, ReadingLeavesPrefix};
+ghost use Rattle.keel_recovery.specs.Calls.{CreateMakes, FrameKeeps, LogAppendKeeps, LogSyncKeeps, PublishKeeps, SyncDirKeeps};
 ghost use Rattle.keel_recovery.specs.Machine.{CoveredReads, CoveredStands, CrashTurns, FootingStays, InsideStep, OpeningGoesOn, StartsCovered, TurnKeeps};
 ghost use Rattle.keel_recovery.specs.Worked.{FirstBatch, TwoPuts};
 
-/// A device that an open store covers stands for its story.
-pub fn covering_stands()
-    ensures { CoveringStands }
+/// A device whose logs hold a story stands for it.
+pub fn keeping_stands()
+    ensures { KeepingStands }
 {}
 
-/// A store that opens a device at rest covers it, where the device stands for the story that a crash left.
-pub fn opening_covers()
-    ensures { OpeningCovers }
+/// A device at rest that is opened keeps what was found, where it stands for the story that a crash left.
+pub fn opening_keeps()
+    ensures { OpeningKeeps }
 {}
 
 /// A device at rest that can be read stands for the story that begins with what is read.
@@ -30,59 +29,49 @@ pub fn reading_leaves_prefix()
     ensures { ReadingLeavesPrefix }
 {}
 
+/// A crash inside a call leaves a prefix of the story before it, or of the one behind its Ok.
+pub fn call_leaves_prefix()
+    ensures { CallLeavesPrefix }
+{}
+
 /// What is opened behind a crash is a prefix of the order of logged writes, with every acknowledged synced one.
 pub fn opening_finds_prefix()
     ensures { OpeningFindsPrefix }
 {}
 
-/// What is opened without a crash has all that was published. The device needn't be at rest then, so this is no covering.
+/// What is opened without a crash has all that was published, though the device needn't be at rest then.
 pub fn opening_finds_published()
     ensures { OpeningFindsPublished }
 {}
 
-/// The store makes its log.
-pub fn create_covers()
-    ensures { CreateCovers }
+/// A call about logs that nothing kept needs.
+pub fn frame_keeps()
+    ensures { FrameKeeps }
 {}
 
-/// The store makes the name of its log firm.
-pub fn sync_dir_covers()
-    ensures { SyncDirCovers }
+/// The store makes a log.
+pub fn create_makes()
+    ensures { CreateMakes }
+{}
+
+/// The store makes the name of its new log firm.
+pub fn sync_dir_keeps()
+    ensures { SyncDirKeeps }
 {}
 
 /// The store appends the records of batches. They count as handed over whether or not the call fails.
-pub fn append_covers()
-    ensures { AppendCovers }
+pub fn log_append_keeps()
+    ensures { LogAppendKeeps }
 {}
 
 /// The store publishes batches that want no sync.
-pub fn publish_covers()
-    ensures { PublishCovers }
+pub fn publish_keeps()
+    ensures { PublishKeeps }
 {}
 
 /// The store syncs its log, and publishes batches that must not be lost from then on.
-pub fn sync_covers()
-    ensures { SyncCovers }
-{}
-
-/// A crash while the store makes its log.
-pub fn inside_create()
-    ensures { InsideCreate }
-{}
-
-/// A crash while it makes the log's name firm.
-pub fn inside_sync_dir()
-    ensures { InsideSyncDir }
-{}
-
-/// A crash inside an append.
-pub fn inside_append()
-    ensures { InsideAppend }
-{}
-
-/// A crash inside a sync.
-pub fn inside_sync()
-    ensures { InsideSync }
+pub fn log_sync_keeps()
+    ensures { LogSyncKeeps }
 {}
 
 /// Before an opening, the machine's device is covered where it is at rest.
@@ -95,7 +84,7 @@ pub fn turn_keeps()
     ensures { TurnKeeps }
 {}
 
-/// The device of an open machine that keeps it covered stands for the machine's story.
+/// The device of a machine that has a story and keeps it covered stands for the story.
 pub fn covered_stands()
     ensures { CoveredStands }
 {}

@@ -2,14 +2,19 @@
 //!
 //! Whatever call fails and wherever a crash falls, each opening gives the map after a prefix of the order of logged
 //! writes, which holds every acknowledged synced write, unless the check of a torn record matched by chance. `laws` says
-//! it in steps: a device that the open store covers stands for the story (`covering_stands`); an opening covers what a
-//! crash left (`opening_covers`), or a first device (`first_opening`); each changing call keeps the store covering its
-//! device, whatever the answer (`create_covers` to `sync_covers`); and a crash, between calls or inside one
-//! (`inside_create` to `inside_sync`), leaves a device that stands for a prefix of the story
-//! (`crash_leaves_prefix`, `reading_leaves_prefix`). `opening_finds_prefix` draws the conclusion for the next opening.
+//! it in steps.
+//!
+//! A device keeps a story where its logs hold the story's batches behind what was there before (`specs::Keeping`), over
+//! any number of logs and of operations that wait. Then it stands for the story (`keeping_stands`), and this is the one
+//! place where images are looked at. An opening keeps what a crash left (`opening_keeps`), or a first device stands for
+//! what is read of it (`first_opening`). Each kind of call leaves what is kept, whatever the answer: a call that nothing
+//! kept needs (`frame_keeps`), a new log (`create_makes`, `sync_dir_keeps`), batches that are appended, synced and
+//! published (`log_append_keeps`, `log_sync_keeps`, `publish_keeps`). A crash, between calls or inside one
+//! (`call_leaves_prefix`), leaves a device that stands for a prefix of the story (`crash_leaves_prefix`,
+//! `reading_leaves_prefix`). `opening_finds_prefix` draws the conclusion for the next opening.
 //!
 //! Of the machine as a whole it says that every turn that a caller may ask for keeps its device covered (`turn_keeps`),
-//! from a device at rest on (`starts_covered`), so that the device of an open store always stands for its story
+//! from a device at rest on (`starts_covered`), so that the device of a machine with a story always stands for it
 //! (`covered_stands`). Whatever a crash leaves is a turn as well (`crash_turns`), and one inside a write step's call
 //! leaves a prefix of the story before it or behind it (`inside_step`). Behind a crash the directory reads as the point
 //! that the story leads to (`covered_reads`), so that an opening which goes on with the story is refused for a fault of

@@ -1,23 +1,29 @@
 use crate::laws;
 
 #[test]
-fn the_laws_hold() {
-    laws::covering_stands();
-    laws::opening_covers();
+fn stories_and_devices() {
+    laws::keeping_stands();
+    laws::opening_keeps();
     laws::first_opening();
     laws::crash_leaves_prefix();
     laws::reading_leaves_prefix();
+    laws::call_leaves_prefix();
     laws::opening_finds_prefix();
     laws::opening_finds_published();
-    laws::create_covers();
-    laws::sync_dir_covers();
-    laws::append_covers();
-    laws::publish_covers();
-    laws::sync_covers();
-    laws::inside_create();
-    laws::inside_sync_dir();
-    laws::inside_append();
-    laws::inside_sync();
+}
+
+#[test]
+fn calls() {
+    laws::frame_keeps();
+    laws::create_makes();
+    laws::sync_dir_keeps();
+    laws::log_append_keeps();
+    laws::publish_keeps();
+    laws::log_sync_keeps();
+}
+
+#[test]
+fn the_machine() {
     laws::starts_covered();
     laws::turn_keeps();
     laws::covered_stands();
@@ -26,6 +32,10 @@ fn the_laws_hold() {
     laws::covered_reads();
     laws::opening_goes_on();
     laws::footing_stays();
+}
+
+#[test]
+fn worked_examples() {
     laws::two_puts();
     laws::first_batch();
 }

@@ -1,0 +1,5 @@
+use Rattle.keel_recovery.proofs.Growing.{publish_keeps}
+use Rattle.keel_recovery.proofs.laws.publish_keeps.Goals as goal
+
+pub returns : goal.returns
+returns c = publish_keeps
