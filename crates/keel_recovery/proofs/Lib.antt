@@ -24,4 +24,5 @@ pub mod GoingOn
 pub mod Machine
 pub mod Forging
 pub mod InsideStep
+pub mod SafeSteps
 pub mod Examples

@@ -6,6 +6,7 @@ use Rattle.keel_base.specs.declared.memory.OutOfMemory.{OutOfMemory}
 use Rattle.keel_base.specs.declared.op.Batch.{Batch}
 use Rattle.keel_base.specs.declared.op.Op.{Op}
 use Rattle.keel_batch.specs.Batches.{AreBatches}
+use Rattle.keel_disk.specs.declared.change.Change.{Change}
 use Rattle.keel_disk.specs.State.{State as Disk, directory_read}
 use Rattle.keel_disk.specs.Plain.{image_read}
 use Rattle.keel_disk.specs.Told.{Told, Crashes}
@@ -23,7 +24,9 @@ use Rattle.keel_machine.specs.Crash.{CrashAnswers, has_story}
 use Rattle.keel_machine.specs.Opening.{OpenAnswers, continues}
 use Rattle.keel_group.specs.Queue.{Ticketed}
 use Rattle.keel_machine.specs.States.{State, Footing, Known, Unknown, Mode, is_open, is_left, unopened, Story, SegmentLog, Segment, Segments, Group, Act, MakeLog, SyncDirectory, AddRecords, SyncLog, left_of, point_of}
-use Rattle.keel_machine.specs.Turns.{Event, Opening, Listing, Crashing, Finishing, Turn}
+use Rattle.keel_machine.specs.declared.steps.WriteStep.{WriteStep}
+use Rattle.keel_machine.specs.declared.steps.WriteStep.TheVariants as step
+use Rattle.keel_machine.specs.Turns.{Event, Opening, Writing, Listing, Crashing, Finishing, Turn}
 use Rattle.keel_machine.specs.Writing.{ready, change_of}
 use Rattle.keel_machine.specs.WritingAfter.{MadeCall, call_done, call_failed, failure_of}
 use Rattle.keel_recovery.specs.Calls.{IsNewLog, IsNext, AllWhole, CanGrow}
@@ -246,6 +249,24 @@ InsideStep =
     (s : State) (told : Told) (held : Option ℕ) (group : Group) (act : Act) (later : List Act) (failed : Option Fault) (device : Seen)
     → is_open s.mode.phase ≡ true → s.footing ≡ Known → IsCovered s → s.device.told ≡ Some told → MadeCall s held group act later failed device
     → InsideCall told.state (change_of (ready s) group act) s.story (story_behind s failed)
+
+-- Of a known device: it tells the last call that was handed in, and every plain image inside that call reads as a prefix of
+-- the story before or of the one behind, with all that must not be lost.
+abbrev pub CrashesWithin : Footing → Option Told → Option Told → Story → Story → Type 0
+CrashesWithin Unknown before after story behind = Unit {0}
+CrashesWithin Known (Some before) (Some after) story behind = (change : Change) × (after.last ≡ Some change) × InsideCall before.state change story behind
+CrashesWithin Known before after story behind = ⊥
+
+-- so it is of a write step that made a call
+abbrev pub StepIsSafe : State → WriteStep → State → Type 0
+StepIsSafe s (step.Moved job call) next = CrashesWithin s.footing s.device.told next.device.told s.story next.story
+StepIsSafe s (step.Done job seq batches) next = CrashesWithin s.footing s.device.told next.device.told s.story next.story
+StepIsSafe s (step.Failed failure) next = CrashesWithin s.footing s.device.told next.device.told s.story next.story
+StepIsSafe s made next = Unit {0}
+
+abbrev pub StepsAreSafe : Type 0
+StepsAreSafe =
+    (s next : State) (held : Option ℕ) (made : WriteStep) → is_open s.mode.phase ≡ true → Turn s (Writing held made) next → IsCovered s → StepIsSafe s made next
 
 -- how many crashes left a forged image, as far as the device tells it
 abbrev pub forged_of : Option Told → ℕ

@@ -1,7 +1,7 @@
 // What a device keeps of a story, and what follows, each as the contract of a function: a proof that needs one calls it.
 ghost use Rattle.keel_recovery.specs.Laws.{CallLeavesPrefix, CrashLeavesPrefix, FirstOpening, KeepingStands, OpeningFindsPrefix, OpeningFindsPublished, OpeningKeeps, ReadingLeavesPrefix};
 ghost use Rattle.keel_recovery.specs.Calls.{CreateMakes, FrameKeeps, LogAppendKeeps, LogSyncKeeps, PublishKeeps, SyncDirKeeps};
-ghost use Rattle.keel_recovery.specs.Machine.{CoveredReads, CoveredStands, CrashTurns, FootingStays, InsideStep, OpeningGoesOn, StartsCovered, TurnKeeps};
+ghost use Rattle.keel_recovery.specs.Machine.{CoveredReads, CoveredStands, CrashTurns, FootingStays, InsideStep, StepsAreSafe, OpeningGoesOn, StartsCovered, TurnKeeps};
 ghost use Rattle.keel_recovery.specs.Worked.{FirstBatch, TwoPuts};
 
 /// A device whose logs hold a story stands for it.
@@ -97,6 +97,11 @@ pub fn crash_turns()
 /// A crash inside the call of a machine's write step, whatever the answer.
 pub fn inside_step()
     ensures { InsideStep }
+{}
+
+/// The same of each turn of a write step that made a call, as the device tells the call.
+pub fn steps_are_safe()
+    ensures { StepsAreSafe }
 {}
 
 /// Where a machine's story goes on, the directory of its covered device reads as the point that it leads to.

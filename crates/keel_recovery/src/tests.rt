@@ -29,6 +29,7 @@ fn the_machine() {
     laws::covered_stands();
     laws::crash_turns();
     laws::inside_step();
+    laws::steps_are_safe();
     laws::covered_reads();
     laws::opening_goes_on();
     laws::footing_stays();
