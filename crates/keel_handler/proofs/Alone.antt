@@ -1,10 +1,10 @@
 -- A list of failures has one standing error.
 use Rattle.std.proofs.Common.{◌≡◌, ◌<◌, ◌≤◌, Bool, true, false, List, [], ◌∷◌, ◌++◌, Option, Some, None, refl, sym, subst, ap, arith}
-use Rattle.std.specs.Prelude.{All, Contains, nat_lt}
+use Rattle.std.specs.Prelude.{All, Contains, nat_lt, if◌then◌else◌}
 use Rattle.std.proofs.lemmas.Bool.{ltb-true, ltb-false}
 use Rattle.std.proofs.lemmas.List.Elements.{All-nil, All-cons, All-head, All-tail, All-weaker, All-contains, Contains-append_right}
 use Rattle.keel_base.specs.declared.failure.Failure.{Failure}
-use Rattle.keel_handler.specs.Failures.{severity, IsFirstWorst, IsStanding}
+use Rattle.keel_handler.specs.Failures.{severity, IsFirstWorst, IsStanding, first_worst, standing_of}
 use Rattle.keel_handler.specs.Laws.{HasOneStanding}
 use Rattle.keel_handler.proofs.Standing.{none_worse, is_there}
 
@@ -77,33 +77,31 @@ behind_front paranoid failure standing failures less worst = record {
 }
 
 in_front : (paranoid : Bool) (failure : Failure) (failures : List Failure) (standing : Option Failure) → IsStanding paranoid failures standing
-    → (standing' : Option Failure) × IsStanding paranoid (failure ∷ failures) standing'
+    → IsStanding paranoid (failure ∷ failures) (first_worst paranoid failure standing)
 in_front paranoid failure failures None stands =
-    elim (nat_lt 0 (severity paranoid failure)) as (λ some. nat_lt 0 (severity paranoid failure) ≡ some → (standing : Option Failure) × IsStanding paranoid (failure ∷ failures) standing) [
-      | true ↦ λ some. (
-        Some failure,
+    elim (nat_lt 0 (severity paranoid failure))
+    as (λ some. nat_lt 0 (severity paranoid failure) ≡ some → IsStanding paranoid (failure ∷ failures) (if some then Some failure else None)) [
+      | true ↦ λ some.
         front paranoid failure failures (ltb-true 0 (severity paranoid failure) some)
-            (All-weaker (Zero paranoid) (NoMore paranoid failure) (λ other zero. omega (arith, zero)) failures stands),
-      )
-      | false ↦ λ none. (None, All-cons (Zero paranoid) failure failures (omega (arith, ltb-false 0 (severity paranoid failure) none)) stands)
+            (All-weaker (Zero paranoid) (NoMore paranoid failure) (λ other zero. omega (arith, zero)) failures stands)
+      | false ↦ λ none. All-cons (Zero paranoid) failure failures (omega (arith, ltb-false 0 (severity paranoid failure) none)) stands
     ] refl
 in_front paranoid failure failures (Some standing) stands =
-    elim (nat_lt (severity paranoid failure) (severity paranoid standing)) as (λ less. nat_lt (severity paranoid failure) (severity paranoid standing) ≡ less → (s : Option Failure) × IsStanding paranoid (failure ∷ failures) s) [
-      | true ↦ λ less. (Some standing, behind_front paranoid failure standing failures (ltb-true (severity paranoid failure) (severity paranoid standing) less) stands)
-      | false ↦ λ more. let above : severity paranoid standing ≤ severity paranoid failure = ltb-false (severity paranoid failure) (severity paranoid standing) more in (
-        Some failure,
+    elim (nat_lt (severity paranoid failure) (severity paranoid standing))
+    as (λ less. nat_lt (severity paranoid failure) (severity paranoid standing) ≡ less → IsStanding paranoid (failure ∷ failures) (if less then Some standing else Some failure)) [
+      | true ↦ λ less. behind_front paranoid failure standing failures (ltb-true (severity paranoid failure) (severity paranoid standing) less) stands
+      | false ↦ λ more. let above : severity paranoid standing ≤ severity paranoid failure = ltb-false (severity paranoid failure) (severity paranoid standing) more in
         front paranoid failure failures (omega (arith, above, stands.some))
-            (All-weaker (NoMore paranoid standing) (NoMore paranoid failure) (λ other most. omega (arith, most, above)) failures (none_worse paranoid failures standing stands)),
-      )
+            (All-weaker (NoMore paranoid standing) (NoMore paranoid failure) (λ other most. omega (arith, most, above)) failures (none_worse paranoid failures standing stands))
     ] refl
 
-found : (paranoid : Bool) (failures : List Failure) → (standing : Option Failure) × IsStanding paranoid failures standing
-found paranoid [] = (None, All-nil (Zero paranoid))
-found paranoid (failure ∷ failures) = in_front paranoid failure failures (found paranoid failures).0 (found paranoid failures).1
+pub found : (paranoid : Bool) (failures : List Failure) → IsStanding paranoid failures (standing_of paranoid failures)
+found paranoid [] = All-nil (Zero paranoid)
+found paranoid (failure ∷ failures) = in_front paranoid failure failures (standing_of paranoid failures) (found paranoid failures)
 
 pub has_one : (paranoid : Bool) (failures : List Failure) → HasOneStanding paranoid failures
 has_one paranoid failures = record {
-  standing = (found paranoid failures).0;
-  stands = (found paranoid failures).1;
-  alone = λ other stands. alone paranoid failures (found paranoid failures).0 other (found paranoid failures).1 stands;
+  standing = standing_of paranoid failures;
+  stands = found paranoid failures;
+  alone = λ other stands. alone paranoid failures (standing_of paranoid failures) other (found paranoid failures) stands;
 }

@@ -1,5 +1,5 @@
 -- Failures since the last clear, as a list in their order, the one of them that stands, and what it stops.
-use Rattle.std.specs.Prelude.{◌≡◌, ℕ, ◌<◌, ◌≤◌, ◌⊎◌, ◌&&◌, nat_le, Bool, true, false, IsTrue, List, ◌∷◌, ◌++◌, Option, Some, None, All, Contains}
+use Rattle.std.specs.Prelude.{◌≡◌, ℕ, ◌<◌, ◌≤◌, ◌⊎◌, ◌&&◌, nat_le, nat_lt, Bool, true, false, IsTrue, List, [], ◌∷◌, ◌++◌, Option, Some, None, All, Contains, if◌then◌else◌}
 use Rattle.keel_base.specs.declared.failure.Failure.{Failure}
 use Rattle.keel_base.specs.declared.failure.Fault.{Fault}
 use Rattle.keel_base.specs.declared.failure.Fault.TheVariants.{NoSpace, Retryable}
@@ -22,6 +22,25 @@ pub record IsFirstWorst (paranoid : Bool) (failures : List Failure) (failure : F
 abbrev pub IsStanding : Bool → List Failure → Option Failure → Type 0
 IsStanding paranoid failures None = All (λ failure. severity paranoid failure ≡ 0) failures
 IsStanding paranoid failures (Some failure) = IsFirstWorst paranoid failures failure
+
+-- of a failure and the standing error of those behind it, the one that stands: the first of the greatest severity
+abbrev pub first_worst : Bool → Failure → Option Failure → Option Failure
+first_worst paranoid failure None = if nat_lt 0 (severity paranoid failure) then Some failure else None
+first_worst paranoid failure (Some behind) =
+    if nat_lt (severity paranoid failure) (severity paranoid behind) then Some behind else Some failure
+
+-- the same as a function
+abbrev pub standing_of : Bool → List Failure → Option Failure
+standing_of paranoid [] = None
+standing_of paranoid (failure ∷ failures) = first_worst paranoid failure (standing_of paranoid failures)
+
+abbrev pub where_severe : Bool → Option Failure → Option Failure
+where_severe paranoid None = None
+where_severe paranoid (Some failure) = if nat_le 2 (severity paranoid failure) then Some failure else None
+
+-- the standing error where it stops writes
+abbrev pub stopping_of : Bool → List Failure → Option Failure
+stopping_of paranoid failures = where_severe paranoid (standing_of paranoid failures)
 
 -- the severity of the standing error, and 0 where none stands
 abbrev pub standing_severity : Bool → Option Failure → ℕ

@@ -29,6 +29,7 @@ fn the_first_of_the_worst_failures_stands(rt: HostRuntime) -> Result<(), Fail> {
         assert!(rt; handler.work_stops());
     }
     laws::one_standing();
+    laws::standing_is_found();
     handler.clear();
     assert_eq!(rt; handler.standing(), None);
     assert!(rt; !handler.work_stops());

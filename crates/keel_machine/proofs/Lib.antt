@@ -1,0 +1,2 @@
+mod FirstTests
+mod Stopping

@@ -7,6 +7,7 @@ use Rattle.keel_base.specs.declared.op.Batch.{Batch}
 use Rattle.keel_base.specs.declared.op.Op.{Op}
 use Rattle.keel_base.specs.declared.op.Op.TheVariants.{Put, Del}
 use Rattle.keel_base.specs.Weight.{weight_of}
+use Rattle.keel_handler.specs.Failures.{standing_of, stopping_of}
 use Rattle.keel_group.specs.declared.formed.TheConstants.{MAX_WAITING}
 use Rattle.keel_machine.specs.declared.answers.Admit.{Admit}
 use Rattle.keel_machine.specs.declared.answers.Admit.TheVariants.{Queued, BadSize, Stopped, Spent, QueueFull, OutOfMemory}
@@ -17,13 +18,13 @@ use Rattle.keel_machine.specs.declared.answers.Outcome.TheVariants as outcome
 use Rattle.keel_machine.specs.States.{State, Group, point_of}
 use Rattle.keel_machine.specs.Tests.{first_some, when}
 
--- The failure that stands. Only logs are written, and nothing more behind a failure: so it is the only one.
-abbrev pub standing_of : List Failure → Option Failure
-standing_of [] = None
-standing_of (failure ∷ failures) = Some failure
-
+-- the error that stands: of the failures since the opening the first of the greatest severity
 abbrev pub standing : State → Option Failure
-standing s = standing_of s.failing.failures
+standing s = standing_of s.failing.paranoid s.failing.failures
+
+-- the standing error where it stops writes
+abbrev pub stopping : State → Option Failure
+stopping s = stopping_of s.failing.paranoid s.failing.failures
 
 abbrev pub ops_of : List Batch → List (List Op)
 ops_of batches = map (λ batch. batch.ops) batches
@@ -82,15 +83,27 @@ size_refusal batch = first_some (
 
 -- ---- admission
 
+abbrev pub is_sequence_spent : State → Batch → Bool
+is_sequence_spent s batch = nat_lt (2 ^ 56) (seq_with s batch)
+
+abbrev pub is_ticket_spent : State → Bool
+is_ticket_spent s = nat_le (2 ^ 56) s.writing.last_ticket
+
+abbrev pub is_queue_full : State → Bool
+is_queue_full s = nat_le MAX_WAITING (length s.writing.waiting)
+
 -- the refusals, in the order of their tests
-abbrev pub refusal : State → Batch → Option Admit
-refusal s batch = first_some (
+abbrev pub refusals : State → Batch → List (Option Admit)
+refusals s batch =
     size_refusal batch
-    ∷ option_map Stopped (standing s)
-    ∷ when (nat_lt (2 ^ 56) (seq_with s batch)) (Spent Sequence)
-    ∷ when (nat_le (2 ^ 56) s.writing.last_ticket) (Spent Ticket)
-    ∷ when (nat_le MAX_WAITING (length s.writing.waiting)) (QueueFull (length s.writing.waiting))
-    ∷ [])
+    ∷ option_map Stopped (stopping s)
+    ∷ when (is_sequence_spent s batch) (Spent Sequence)
+    ∷ when (is_ticket_spent s) (Spent Ticket)
+    ∷ when (is_queue_full s) (QueueFull (length s.writing.waiting))
+    ∷ []
+
+abbrev pub refusal : State → Batch → Option Admit
+refusal s batch = first_some (refusals s batch)
 
 -- the batch waits, under the next ticket
 abbrev pub queued : Batch → State → State

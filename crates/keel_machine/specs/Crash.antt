@@ -1,8 +1,8 @@
 -- A crash of the device, and what it leaves of the story.
-use Rattle.std.specs.Prelude.{◌≡◌, ℕ, ◌+◌, ◌≤◌, true, List, length, Option, Some, None, Ok}
+use Rattle.std.specs.Prelude.{◌≡◌, ℕ, ◌+◌, ◌≤◌, ◌||◌, Bool, true, false, List, length, Option, Some, None, Ok, if◌then◌else◌}
 use Rattle.keel_base.specs.Counts.{raised}
 use Rattle.keel_base.specs.declared.memory.OutOfMemory.{OutOfMemory}
-use Rattle.keel_disk.specs.declared.rule.Arranged.TheVariants.{Crashed}
+use Rattle.keel_disk.specs.declared.rule.Arranged.TheVariants as arranged
 use Rattle.keel_disk.specs.declared.rule.Pick.{Pick}
 use Rattle.keel_disk.specs.Directory.{Named}
 use Rattle.keel_disk.specs.Image.{restarted}
@@ -10,7 +10,11 @@ use Rattle.keel_disk.specs.Plain.{PlainImage, image_read}
 use Rattle.keel_disk.specs.Told.{Told, Crashes, CrashedTo}
 use Rattle.keel_reading.specs.Reading.{Reads}
 use Rattle.keel_disk.specs.Seen.{Seen, IsArranged}
-use Rattle.keel_machine.specs.States.{State, Story, Footing, Known, Unknown, Mode, Unopened, Closed, Open, cut_story, point_of}
+use Rattle.keel_machine.specs.States.{State, Story, Footing, Known, Unknown, Mode, Shut, Nothing, Crashed, is_open, is_left, cut_story, point_of}
+
+-- a store is open, or its device was left so that the story is known
+abbrev pub has_story : Mode → Bool
+has_story mode = is_open mode.phase || is_left mode.left
 
 -- the device is an image of what it was, in which no fragment is good by chance
 pub record LeavesPlain (before after : Told) : Type 0 where
@@ -31,15 +35,15 @@ pub record IsPrefix (count : ℕ) (story : Story) (image : Named (List ℕ)) : T
   pub within : count ≤ length story.log + length story.limbo
   pub reads : Reads image (point_of (cut_story count story))
 
--- where a store was opened, a crash leaves a first part of its story
-abbrev pub LeavesOf : Mode → ℕ → Story → Named (List ℕ) → Type 0
-LeavesOf Unopened count story image = Unit {0}
-LeavesOf Closed count story image = IsPrefix count story image
-LeavesOf Open count story image = IsPrefix count story image
+-- where a store is or was open, a crash leaves a first part of its story
+abbrev pub LeavesOf : Bool → ℕ → Story → Named (List ℕ) → Type 0
+LeavesOf false count story image = Unit {0}
+LeavesOf true count story image = IsPrefix count story image
 
 -- What a crash leaves. Of a known device: so many batches of the story, unless the image is forged.
 abbrev pub Leaves : Footing → Mode → Story → Option Told → Option ℕ → Option Told → Type 0
-Leaves Known mode story (Some before) (Some count) (Some after) = LeavesPlain before after × LeavesOf mode count story (image_read after.state)
+Leaves Known mode story (Some before) (Some count) (Some after) =
+    LeavesPlain before after × LeavesOf (has_story mode) count story (image_read after.state)
 Leaves Known mode story (Some before) None (Some after) = LeavesForged before after
 Leaves Unknown mode story before None after = Crashes {E = OutOfMemory} before (Ok true) after
 Leaves _ mode story _ _ _ = ⊥
@@ -48,14 +52,12 @@ Leaves _ mode story _ _ _ = ⊥
 pub record CrashAnswers (s : State) (pick : Pick) (kept : Option ℕ) (device : Seen) : Type 0 where
   pub simulated : s.device.simulated ≡ true
   pub leaves : Leaves s.footing s.mode s.story s.device.told kept device.told
-  pub rest : IsArranged {E = OutOfMemory} (Crashed pick) s.device (Ok true) device
+  pub rest : IsArranged {E = OutOfMemory} (arranged.Crashed pick) s.device (Ok true) device
 
 abbrev pub mode_crashed : Mode → Mode
-mode_crashed Unopened = Unopened
-mode_crashed Closed = Closed
-mode_crashed Open = Closed
+mode_crashed mode = record { phase = Shut; left = if has_story mode then Crashed else Nothing }
 
 -- an open store is dropped, and the story is what is left of it; or nothing is known any more
 abbrev pub crash_after : State → Option ℕ → State
 crash_after s (Some count) = record s { mode = mode_crashed s.mode; story = cut_story count s.story }
-crash_after s None = record s { mode = Unopened; footing = Unknown }
+crash_after s None = record s { mode = record { phase = Shut; left = Nothing }; footing = Unknown }

@@ -1,15 +1,16 @@
 -- Facts of the machine.
-use Rattle.std.specs.Prelude.{◌≡◌, ◌⊎◌, ℕ, ◌≤◌, length, Option, Some}
+use Rattle.std.specs.Prelude.{◌≡◌, ◌⊎◌, ℕ, ◌≤◌, true, length, Option, Some, is_some}
 use Rattle.keel_base.specs.Counts.{raised}
 use Rattle.keel_base.specs.declared.failure.Failure.{Failure}
+use Rattle.keel_base.specs.declared.failure.Fault.{Fault}
 use Rattle.keel_base.specs.declared.op.Batch.{Batch}
 use Rattle.keel_disk.specs.Seen.{Seen}
 use Rattle.keel_group.specs.declared.formed.TheConstants.{MAX_WAITING}
 use Rattle.keel_machine.specs.declared.answers.Admit.TheVariants.{Queued}
 use Rattle.keel_machine.specs.declared.steps.WriteStep.{WriteStep}
-use Rattle.keel_machine.specs.Admission.{standing, AdmitAnswers}
+use Rattle.keel_machine.specs.Admission.{stopping, AdmitAnswers}
 use Rattle.keel_machine.specs.States.{State}
-use Rattle.keel_machine.specs.WritingAfter.{WriteAnswers}
+use Rattle.keel_machine.specs.WritingAfter.{WriteAnswers, noted, failure_of}
 
 -- A write step makes one changing call of the device at most.
 abbrev pub OneCallAStep : Type 0
@@ -17,9 +18,13 @@ OneCallAStep =
     (s : State) (held : Option ℕ) (step : WriteStep) (device : Seen) → WriteAnswers s held step device
     → (device.changes ≡ s.device.changes) ⊎ (device.changes ≡ raised s.device.changes)
 
--- While a failure stands, no batch is queued.
+-- While an error stands that stops writes, no batch is queued.
 abbrev pub FailureStops : Type 0
-FailureStops = (s : State) (failure : Failure) (batch : Batch) (ticket : ℕ) → standing s ≡ Some failure → AdmitAnswers s batch (Queued ticket) → ⊥
+FailureStops = (s : State) (failure : Failure) (batch : Batch) (ticket : ℕ) → stopping s ≡ Some failure → AdmitAnswers s batch (Queued ticket) → ⊥
+
+-- Every failure of a log stops writes, whatever stood before.
+abbrev pub LogFailureStops : Type 0
+LogFailureStops = (s : State) (fault : Fault) → is_some (stopping (noted (failure_of fault) s)) ≡ true
 
 -- Where as many batches wait as may, no further one is queued.
 abbrev pub FullQueueStops : Type 0

@@ -1,5 +1,6 @@
 -- Opening a store, and handing its device back.
 use Rattle.std.specs.Prelude.{◌≡◌, Bool, true, false, [], None, Result, Ok, Err}
+use Rattle.keel_base.specs.Options.{standard}
 use Rattle.keel_base.specs.Points.{Point, origin, fold_batches}
 use Rattle.keel_reading.specs.declared.refusal.OpenRefusal.{OpenRefusal}
 use Rattle.keel_reading.specs.declared.replay.Found.{Found}
@@ -7,16 +8,19 @@ use Rattle.keel_reading.specs.Answers.{fault_in, NamesOther, ReadAnswers, RunsOn
 use Rattle.keel_reading.specs.Logs.{ops_of}
 use Rattle.keel_reading.specs.Replays.{all_numbered}
 use Rattle.keel_disk.specs.Seen.{IsQuiet, Seen}
-use Rattle.keel_machine.specs.States.{State, Story, Footing, Known, Mode, Open, Closed, new_story, point_of}
+use Rattle.keel_machine.specs.States.{State, Story, Footing, Known, Mode, Open, Shut, Leaving, Crashed, Left, new_story, point_of}
 
 -- the point that the batches found lead to
 abbrev pub point_found : Found → Point
 point_found found = fold_batches origin (ops_of (all_numbered found.batches))
 
 -- whether an opening goes on with a story, or begins one
+abbrev pub goes_on_from : Leaving → Footing → Bool
+goes_on_from Crashed Known = true
+goes_on_from _ footing = false
+
 abbrev pub continues : Mode → Footing → Bool
-continues Closed Known = true
-continues mode footing = false
+continues mode footing = goes_on_from mode.left footing
 
 -- a story goes on only with the point that it leads to
 abbrev pub GoesOnWith : Bool → Story → Found → Type 0
@@ -44,11 +48,11 @@ abbrev pub opened : Found → State → State
 opened found s = record {
   device = s.device;
   footing = s.footing;
-  mode = Open;
+  mode = record s.mode { phase = Open };
   story = story_opened (continues s.mode s.footing) found s.story;
-  log = None;
+  segments = record { immutable = []; active = record { batches = []; logs = [] } };
   writing = record { waiting = []; outcomes = []; last_ticket = 0 };
-  failing = record { failures = [] };
+  failing = record { failures = []; paranoid = standard.paranoid };
   jobs = record { write = record { number = 0; running = None } };
   numbers = record { next_file = found.next_file };
 }
@@ -59,4 +63,4 @@ open_after s (Err refused) = s
 
 -- the device is handed back
 abbrev pub finished : State → State
-finished s = record s { mode = Closed }
+finished s = record s { mode = record { phase = Shut; left = Left } }

@@ -1,5 +1,5 @@
 -- The machine's states: plain data, one record for each part.
-use Rattle.std.specs.Prelude.{ℕ, Bool, List, [], ◌++◌, take, Option}
+use Rattle.std.specs.Prelude.{◌≡◌, ℕ, ◌+◌, Bool, true, false, List, [], ◌∷◌, ◌++◌, length, take, drop, Option, Some, None, if◌then◌else◌}
 use Rattle.keel_base.specs.Points.{Point, fold_batches}
 use Rattle.keel_base.specs.declared.failure.Failure.{Failure}
 use Rattle.keel_base.specs.declared.op.Batch.{Batch}
@@ -14,19 +14,62 @@ pub data Footing : Type 0 where
   Known : Footing
   Unknown : Footing
 
--- No store was opened yet, or a crash left nothing to build on; a crash left the story's device; or a store is open.
-pub data Mode : Type 0 where
-  Unopened : Mode
-  Closed : Mode
-  Open : Mode
+-- no store is open, or one is
+pub data Phase : Type 0 where
+  Shut : Phase
+  Open : Phase
 
--- Where the run began, the batches that were published since, those that were handed to a log and aren't published,
--- and how many of the published ones must not be lost. A batch is its ops.
+-- how the story's device was left when a store was last open on it: there is no story yet, or none to build on; by a
+-- crash; or handed back without one
+pub data Leaving : Type 0 where
+  Nothing : Leaving
+  Crashed : Leaving
+  Left : Leaving
+
+pub record Mode : Type 0 where
+  pub phase : Phase
+  pub left : Leaving
+
+abbrev pub is_open : Phase → Bool
+is_open Shut = false
+is_open Open = true
+
+abbrev pub is_left : Leaving → Bool
+is_left Nothing = false
+is_left Crashed = true
+is_left Left = true
+
+-- no store is open, and there is no story
+abbrev pub unopened : Mode
+unopened = record { phase = Shut; left = Nothing }
+
+-- Where it begins, the batches that were published since, those that were handed to a log and aren't published, and how
+-- many of the published ones must not be lost. A batch is its ops.
 pub record Story : Type 0 where
   pub start : Point
   pub log : List (List Op)
   pub limbo : List (List Op)
   pub floor : ℕ
+
+-- batches were handed to a log
+abbrev pub handed : List (List Op) → Story → Story
+handed batches story = record story { limbo = story.limbo ++ batches }
+
+-- what is in limbo is published; behind a sync none of it must be lost
+abbrev pub published : Bool → Story → Story
+published sync story = record story {
+  log = story.log ++ story.limbo;
+  limbo = [];
+  floor = if sync then length (story.log ++ story.limbo) else story.floor;
+}
+
+-- A story is the later part of another: it begins where the other's earlier batches lead, and goes on as the other does.
+pub record IsPartOf (part story : Story) : Type 0 where
+  pub earlier : List (List Op)
+  pub start_is : part.start ≡ fold_batches story.start earlier
+  pub log_is : story.log ≡ earlier ++ part.log
+  pub limbo_is : story.limbo ≡ part.limbo
+  pub floor_is : story.floor ≡ length earlier + part.floor
 
 -- the story that begins with a point
 abbrev pub new_story : Point → Story
@@ -46,14 +89,26 @@ pub record Writing : Type 0 where
   pub outcomes : List (ℕ × Outcome)
   pub last_ticket : ℕ
 
--- since the opening, oldest first
+-- the failures since the opening, oldest first, and whether doubtful ones are taken as severe
 pub record Failing : Type 0 where
   pub failures : List Failure
+  pub paranoid : Bool
 
--- the log that batches are appended to, and the length of what was
-pub record OwnLog : Type 0 where
+-- a log of a segment: its number, how many bytes were appended to it, and whether a call on it failed
+pub record SegmentLog : Type 0 where
   pub number : ℕ
   pub size : ℕ
+  pub failed : Bool
+
+-- published batches that are in no table, and the logs that have them
+pub record Segment : Type 0 where
+  pub batches : List (List Op)
+  pub logs : List SegmentLog
+
+-- the full segments, oldest first, and the one that batches go to
+pub record Segments : Type 0 where
+  pub immutable : List Segment
+  pub active : Segment
 
 -- what a call of a group is for
 pub data Act : Type 0 where
@@ -62,14 +117,22 @@ pub data Act : Type 0 where
   AddRecords : Act
   SyncLog : Act
 
+-- how many calls of its plan a job has made, and the log that it handed to `create`, until that is a segment's
+pub record Progress : Type 0 where
+  pub made : ℕ
+  pub log : Option ℕ
+
 pub record Group : Type 0 where
   pub tickets : List ℕ
   -- its batches, until they are handed to the log
   pub batches : List Batch
-  -- the log that it handed to `create`, until that is the store's own
-  pub log : Option ℕ
-  -- the calls that it has before it, in order
-  pub left : List Act
+  -- its calls, in order
+  pub plan : List Act
+  pub progress : Progress
+
+-- the calls that the group has before it
+abbrev pub left_of : Group → List Act
+left_of group = drop group.progress.made group.plan
 
 -- a slot's job number, and its running job
 pub record Slot (J : Type 0) : Type 0 where
@@ -87,11 +150,24 @@ pub record State : Type 0 where
   pub footing : Footing
   pub mode : Mode
   pub story : Story
-  pub log : Option OwnLog
+  pub segments : Segments
   pub writing : Writing
   pub failing : Failing
   pub jobs : Jobs
   pub numbers : Numbers
+
+-- the newest log of a segment
+abbrev pub newest_log : List SegmentLog → Option SegmentLog
+newest_log [] = None
+newest_log (log ∷ logs) = Some log
+
+-- the log that batches are appended to, once there is one
+abbrev pub active_log : State → Option SegmentLog
+active_log s = newest_log s.segments.active.logs
+
+-- a log without a byte
+abbrev pub new_log : ℕ → SegmentLog
+new_log number = record { number = number; size = 0; failed = false }
 
 abbrev pub with_device : Seen → State → State
 with_device device s = record s { device = device }

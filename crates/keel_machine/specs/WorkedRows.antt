@@ -10,7 +10,7 @@ use Rattle.keel_machine.specs.declared.answers.Admit.TheVariants.{QueueFull}
 use Rattle.keel_machine.specs.Admission.{queued, last_seq, outcome_of, refusal}
 use Rattle.keel_reading.specs.declared.replay.Found.{Found}
 use Rattle.keel_machine.specs.Opening.{opened}
-use Rattle.keel_machine.specs.States.{State, Group, Act, Unopened}
+use Rattle.keel_machine.specs.States.{State, Group, Act, left_of, unopened}
 use Rattle.keel_machine.specs.Writing.{ready, write_rest, call_of}
 use Rattle.keel_machine.specs.WritingAfter.{call_done}
 
@@ -21,7 +21,7 @@ answer_ok s group (act ∷ next ∷ later) = Moved (ready s).jobs.write.number (
 
 abbrev pub answer_of : State → Option Group → WriteStep
 answer_of s None = Idle
-answer_of s (Some group) = answer_ok s group group.left
+answer_of s (Some group) = answer_ok s group (left_of group)
 
 abbrev pub played_out : State → Option WriteStep → WriteStep × State
 played_out s (Some rest) = (rest, s)
@@ -46,7 +46,7 @@ nothing_found = record { batches = []; last_seq = 0; next_file = 1 }
 
 -- a store that was opened there, as the first of a run
 abbrev pub new_store : State → State
-new_store s = opened nothing_found (record s { mode = Unopened })
+new_store s = opened nothing_found (record s { mode = unopened })
 
 -- the synced put of one byte to one byte
 abbrev pub synced_put : ℕ → ℕ → Batch

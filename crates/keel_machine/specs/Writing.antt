@@ -5,8 +5,7 @@ use Rattle.keel_base.specs.declared.failure.Call.TheVariants as call
 use Rattle.keel_base.specs.declared.failure.Counter.TheVariants.{FileNumber, JobNumber}
 use Rattle.keel_base.specs.declared.failure.Failure.{Failure}
 use Rattle.keel_base.specs.declared.file_name.FileName.TheVariants.{Log}
-use Rattle.keel_base.specs.declared.op.Batch.{Batch}
-use Rattle.keel_batch.specs.Spelling.{spelling}
+use Rattle.keel_batch.specs.Batches.{payloads_behind}
 use Rattle.keel_disk.specs.declared.change.Change.{Change}
 use Rattle.keel_disk.specs.declared.change.Change.TheVariants as change
 use Rattle.keel_frag.specs.Writing.{records_bytes}
@@ -14,8 +13,8 @@ use Rattle.keel_group.specs.Queue.{Ticketed, tickets_of}
 use Rattle.keel_group.specs.Forming.{next_size, next_batches, wants_sync}
 use Rattle.keel_machine.specs.declared.steps.WriteStep.{WriteStep}
 use Rattle.keel_machine.specs.declared.steps.WriteStep.TheVariants.{Idle, Turned, Spent, Cancelled}
-use Rattle.keel_machine.specs.Admission.{standing, last_seq}
-use Rattle.keel_machine.specs.States.{State, OwnLog, Group, Act, MakeLog, SyncDirectory, AddRecords, SyncLog}
+use Rattle.keel_machine.specs.Admission.{stopping, last_seq, ops_of}
+use Rattle.keel_machine.specs.States.{State, SegmentLog, Progress, Group, Act, MakeLog, SyncDirectory, AddRecords, SyncLog, left_of, active_log}
 use Rattle.keel_machine.specs.Tests.{first_some, when, differing}
 
 -- ---- groups
@@ -25,13 +24,16 @@ abbrev pub group_plan : Bool → Bool → List Act
 group_plan has_log sync =
     (if has_log then [] else MakeLog ∷ SyncDirectory ∷ []) ++ AddRecords ∷ (if sync then SyncLog ∷ [] else [])
 
+abbrev pub nothing_made : Progress
+nothing_made = record { made = 0; log = None }
+
 -- the next group of those that wait
 abbrev pub formed : List Ticketed → State → Group
 formed waiting s = record {
   tickets = take (next_size waiting) (tickets_of waiting);
   batches = next_batches waiting;
-  log = None;
-  left = group_plan (is_some s.log) (wants_sync (next_batches waiting));
+  plan = group_plan (is_some (active_log s)) (wants_sync (next_batches waiting));
+  progress = nothing_made;
 }
 
 -- the queue's next group is in flight
@@ -55,23 +57,33 @@ ready s = started_or s.jobs.write.running s
 abbrev pub turned_away : State → Failure → WriteStep
 turned_away s failure = Turned (length s.writing.waiting) failure
 
--- without a group in flight, in the order of the tests
-abbrev pub rest_before_group : State → Option WriteStep
-rest_before_group s = first_some (
-    when (length s.writing.waiting == 0) Idle
-    ∷ option_map (turned_away s) (standing s)
-    ∷ when (nat_le (2 ^ 56) s.jobs.write.number) (Spent JobNumber)
-    ∷ when (not (is_some s.log) && nat_le (2 ^ 56) s.numbers.next_file) (Spent FileNumber)
-    ∷ [])
+abbrev pub is_nobody_waiting : State → Bool
+is_nobody_waiting s = length s.writing.waiting == 0
 
+abbrev pub is_job_spent : State → Bool
+is_job_spent s = nat_le (2 ^ 56) s.jobs.write.number
+
+abbrev pub is_file_spent : State → Bool
+is_file_spent s = nat_le (2 ^ 56) s.numbers.next_file
+
+-- without a group in flight, in the order of the tests
+abbrev pub rests_before_group : State → List (Option WriteStep)
+rests_before_group s =
+    when (is_nobody_waiting s) Idle
+    ∷ option_map (turned_away s) (stopping s)
+    ∷ when (is_job_spent s) (Spent JobNumber)
+    ∷ when (not (is_some (active_log s)) && is_file_spent s) (Spent FileNumber)
+    ∷ []
+
+-- the next call draws a file's number
 abbrev pub draws : List Act → Bool
 draws (MakeLog ∷ later) = true
 draws _ = false
 
--- with that group in flight
-abbrev pub rest_in_group : State → Option Group → Option WriteStep
-rest_in_group s None = rest_before_group s
-rest_in_group s (Some group) = when (draws group.left && nat_le (2 ^ 56) s.numbers.next_file) (Spent FileNumber)
+-- with that group in flight, or without one
+abbrev pub rests_of : State → Option Group → List (Option WriteStep)
+rests_of s None = rests_before_group s
+rests_of s (Some group) = when (draws (left_of group) && is_file_spent s) (Spent FileNumber) ∷ []
 
 abbrev pub cancelled : State → ℕ → WriteStep
 cancelled s held = Cancelled held s.jobs.write.number
@@ -80,7 +92,7 @@ cancelled s held = Cancelled held s.jobs.write.number
 abbrev pub write_rest : State → Option ℕ → Option WriteStep
 write_rest s held = first_some (
     option_map (cancelled s) (differing held s.jobs.write.number)
-    ∷ rest_in_group s s.jobs.write.running
+    ∷ first_some (rests_of s s.jobs.write.running)
     ∷ [])
 
 -- ---- calls
@@ -92,19 +104,14 @@ call_of AddRecords = call.Append
 call_of SyncLog = call.Sync
 
 abbrev pub log_number : State → ℕ
-log_number s = unwrap_or (option_map (λ (log : OwnLog). log.number) s.log) 0
+log_number s = unwrap_or (option_map (λ (log : SegmentLog). log.number) (active_log s)) 0
 
 abbrev pub log_size : State → ℕ
-log_size s = unwrap_or (option_map (λ (log : OwnLog). log.size) s.log) 0
-
--- the payloads of batches whose ops are numbered from a sequence on
-abbrev pub payloads_from : ℕ → List Batch → List (List ℕ)
-payloads_from seq [] = []
-payloads_from seq (batch ∷ rest) = spelling seq batch.ops ∷ payloads_from (seq + length batch.ops) rest
+log_size s = unwrap_or (option_map (λ (log : SegmentLog). log.size) (active_log s)) 0
 
 -- the bytes that a group appends: one record for each batch, numbered behind the last published op
 abbrev pub group_bytes : State → Group → List ℕ
-group_bytes s group = records_bytes (log_size s) (payloads_from (last_seq s + 1) group.batches)
+group_bytes s group = records_bytes (log_size s) (payloads_behind (last_seq s) (ops_of group.batches))
 
 abbrev pub change_of : State → Group → Act → Change
 change_of s group MakeLog = change.Create (Log s.numbers.next_file)

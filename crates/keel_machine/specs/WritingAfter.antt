@@ -1,5 +1,5 @@
 -- What a write step answers behind its call, and what it leaves.
-use Rattle.std.specs.Prelude.{◌≡◌, ℕ, ◌+◌, Bool, true, false, List, [], ◌∷◌, ◌++◌, length, map, drop, Option, Some, None, if◌then◌else◌}
+use Rattle.std.specs.Prelude.{◌≡◌, ℕ, ◌+◌, Bool, true, false, List, [], ◌∷◌, ◌++◌, length, map, drop, Option, Some, None}
 use Rattle.keel_base.specs.declared.failure.Call.{Call}
 use Rattle.keel_base.specs.declared.failure.Fault.{Fault}
 use Rattle.keel_base.specs.declared.failure.Failure.{Failure}
@@ -12,7 +12,7 @@ use Rattle.keel_machine.specs.declared.steps.WriteStep.{WriteStep}
 use Rattle.keel_machine.specs.declared.steps.WriteStep.TheVariants.{Moved, Done, Failed, Turned, OutOfMemory}
 use Rattle.keel_machine.specs.Admission.{ops_of, last_seq}
 use Rattle.keel_machine.specs.Outside.{as_answer}
-use Rattle.keel_machine.specs.States.{State, Story, OwnLog, Group, Act, MakeLog, SyncDirectory, AddRecords, SyncLog}
+use Rattle.keel_machine.specs.States.{State, SegmentLog, Segment, Group, Act, MakeLog, SyncDirectory, AddRecords, SyncLog, handed, published, new_log, left_of}
 use Rattle.keel_machine.specs.Writing.{ready, write_rest, call_of, change_of, group_bytes}
 
 -- ---- parts of the next state
@@ -24,18 +24,12 @@ settled tickets outcome s = record s { writing = record s.writing { outcomes = s
 abbrev pub with_group : Option Group → State → State
 with_group running s = record s { jobs = record { write = record s.jobs.write { running = running } } }
 
--- batches were handed to a log
-abbrev pub handed_over : List (List Op) → Story → Story
-handed_over batches story = record story { limbo = story.limbo ++ batches }
+-- the active segment with this in place of what it had
+abbrev pub with_active : Segment → State → State
+with_active active s = record s { segments = record s.segments { active = active } }
 
--- what is in limbo is published; behind a sync none of it must be lost
-abbrev pub story_published : Bool → Story → Story
-story_published sync story = record {
-  start = story.start;
-  log = story.log ++ story.limbo;
-  limbo = [];
-  floor = if sync then length (story.log ++ story.limbo) else story.floor;
-}
+abbrev pub with_logs : List SegmentLog → State → State
+with_logs logs s = with_active (record s.segments.active { logs = logs }) s
 
 -- the sequence behind the first of these batches, where there is one
 abbrev pub seq_behind : ℕ → List (List Op) → ℕ
@@ -48,53 +42,69 @@ done_each seq [] batches = []
 done_each seq (ticket ∷ tickets) batches =
     (ticket, outcome.Done (seq_behind seq batches)) ∷ done_each (seq_behind seq batches) tickets (drop 1 batches)
 
--- the group's batches, which are in limbo, are published, and the group is over
-abbrev pub published : Bool → Group → State → State
-published sync group s = with_group None (record s {
-  story = story_published sync s.story;
+-- the group's batches, which are in limbo, are published, and the active segment has them; the group is over
+abbrev pub all_published : Bool → Group → State → State
+all_published sync group s = with_group None (record s {
+  story = published sync s.story;
+  segments = record s.segments { active = record s.segments.active { batches = s.segments.active.batches ++ s.story.limbo } };
   writing = record s.writing { outcomes = s.writing.outcomes ++ done_each (last_seq s) group.tickets s.story.limbo };
 })
 
--- the group goes on with the calls that are left, or is published behind the last one
+-- it has made one call more
+abbrev pub one_more : Group → Group
+one_more group = record group { progress = record group.progress { made = group.progress.made + 1 } }
+
+-- the group goes on where calls are left behind this one, or is published behind the last one
 abbrev pub goes_on : Bool → Group → List Act → State → State
-goes_on sync group [] s = published sync group s
-goes_on sync group (act ∷ later) s = with_group (Some (record group { left = act ∷ later })) s
+goes_on sync group [] s = all_published sync group s
+goes_on sync group (act ∷ later) s = with_group (Some (one_more group)) s
 
 abbrev pub file_drawn : State → State
 file_drawn s = record s { numbers = record { next_file = s.numbers.next_file + 1 } }
 
--- a log is longer by so many bytes
-abbrev pub log_longer : ℕ → Option OwnLog → Option OwnLog
-log_longer more None = None
-log_longer more (Some own) = Some (record own { size = own.size + more })
+-- a segment's newest log is longer by so many bytes
+abbrev pub log_longer : ℕ → List SegmentLog → List SegmentLog
+log_longer more [] = []
+log_longer more (log ∷ logs) = record log { size = log.size + more } ∷ logs
 
--- the store's own log is the one that the group made
-abbrev pub own_log : Option ℕ → Option OwnLog
-own_log None = None
-own_log (Some number) = Some (record { number = number; size = 0 })
+-- a call on it failed
+abbrev pub log_failed : List SegmentLog → List SegmentLog
+log_failed [] = []
+log_failed (log ∷ logs) = record log { failed = true } ∷ logs
+
+-- the log that the group made is the active segment's
+abbrev pub logs_made : Option ℕ → List SegmentLog
+logs_made None = []
+logs_made (Some number) = new_log number ∷ []
+
+abbrev pub with_made : Option ℕ → Group → Group
+with_made log group = record group { progress = record group.progress { log = log } }
+
+abbrev pub batches_handed : Group → State → State
+batches_handed group s = record s { story = handed (ops_of group.batches) s.story }
 
 -- the state behind a call of the group that was answered Ok, with the calls left behind it
 abbrev pub act_done : Act → Group → List Act → State → State
-act_done MakeLog group later s = goes_on false (record group { log = Some s.numbers.next_file }) later (file_drawn s)
-act_done SyncDirectory group later s = goes_on false (record group { log = None }) later (record s { log = own_log group.log })
+act_done MakeLog group later s = goes_on false (with_made (Some s.numbers.next_file) group) later (file_drawn s)
+act_done SyncDirectory group later s = goes_on false (with_made None group) later (with_logs (logs_made group.progress.log) s)
 act_done AddRecords group later s =
-    goes_on false (record group { batches = [] }) later (record s {
-      log = log_longer (length (group_bytes s group)) s.log;
-      story = handed_over (ops_of group.batches) s.story;
-    })
+    goes_on false (record group { batches = [] }) later
+    (batches_handed group (with_logs (log_longer (length (group_bytes s group)) s.segments.active.logs) s))
 act_done SyncLog group later s = goes_on true group later s
 
--- what a call leaves of the state though it failed: a number is used up, batches may be found in the log
+-- What a call leaves of the state though it failed: a number is used up, batches may be found in the log, nothing more
+-- is written to the log.
 abbrev pub act_tried : Act → Group → State → State
 act_tried MakeLog group s = file_drawn s
-act_tried AddRecords group s = record s { story = handed_over (ops_of group.batches) s.story }
-act_tried act group s = s
+act_tried SyncDirectory group s = s
+act_tried AddRecords group s = batches_handed group (with_logs (log_failed s.segments.active.logs) s)
+act_tried SyncLog group s = with_logs (log_failed s.segments.active.logs) s
 
 abbrev pub failure_of : Fault → Failure
 failure_of fault = record { reason = Wal; fault = fault }
 
 abbrev pub noted : Failure → State → State
-noted failure s = record s { failing = record { failures = s.failing.failures ++ failure ∷ [] } }
+noted failure s = record s { failing = record s.failing { failures = s.failing.failures ++ failure ∷ [] } }
 
 -- the state behind a call of the group that failed: the group is over, unpublished
 abbrev pub act_failed : Act → Group → Failure → State → State
@@ -111,7 +121,7 @@ queue_turned failure s =
 pub record Makes (s : State) (held : Option ℕ) (group : Group) (act : Act) (later : List Act) : Type 0 where
   pub no_rest : write_rest s held ≡ None
   pub group_is : (ready s).jobs.write.running ≡ Some group
-  pub next : group.left ≡ act ∷ later
+  pub next : left_of group ≡ act ∷ later
 
 -- a call of a group was made and answered so
 pub record MadeCall (s : State) (held : Option ℕ) (group : Group) (act : Act) (later : List Act) (failed : Option Fault) (device : Seen) : Type 0 where
@@ -134,7 +144,7 @@ first_done group (act ∷ later) s = act_done act group later s
 
 abbrev pub group_done : Option Group → State → State
 group_done None s = s
-group_done (Some group) s = first_done group group.left s
+group_done (Some group) s = first_done group (left_of group) s
 
 abbrev pub first_failed : Group → List Act → Failure → State → State
 first_failed group [] failure s = s
@@ -142,7 +152,7 @@ first_failed group (act ∷ later) failure s = act_failed act group failure s
 
 abbrev pub group_failed : Option Group → Failure → State → State
 group_failed None failure s = s
-group_failed (Some group) failure s = first_failed group group.left failure s
+group_failed (Some group) failure s = first_failed group (left_of group) failure s
 
 abbrev pub call_done : State → State
 call_done s = group_done (ready s).jobs.write.running (ready s)

@@ -1,5 +1,5 @@
 // Facts of the machine, each as the contract of a function.
-ghost use Rattle.keel_machine.specs.Laws.{FailureStops, FullQueueStops, OneCallAStep};
+ghost use Rattle.keel_machine.specs.Laws.{FailureStops, FullQueueStops, LogFailureStops, OneCallAStep};
 ghost use Rattle.keel_machine.specs.WorkedRows.{FirstPut, FullQueue, SecondPut};
 
 /// A write step makes one changing call of the device at most.
@@ -7,9 +7,14 @@ pub fn one_call_a_step()
     ensures { OneCallAStep }
 {}
 
-/// While a failure stands, no batch is queued.
+/// While an error stands that stops writes, no batch is queued.
 pub fn failure_stops()
     ensures { FailureStops }
+{}
+
+/// Every failure of a log stops writes, whatever failed before it.
+pub fn log_failure_stops()
+    ensures { LogFailureStops }
 {}
 
 /// While 64 batches wait, no further one is queued.

@@ -4,6 +4,7 @@ use crate::laws;
 fn the_laws_hold() {
     laws::one_call_a_step();
     laws::failure_stops();
+    laws::log_failure_stops();
     laws::full_queue_stops();
     laws::first_put();
     laws::second_put();

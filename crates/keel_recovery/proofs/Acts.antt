@@ -10,7 +10,7 @@ use Rattle.keel_machine.specs.States.{State, Footing, Mode, Story, OwnLog, Group
 use Rattle.keel_machine.specs.Writing.{change_of}
 use Rattle.keel_machine.specs.WritingAfter.{first_done, group_done, first_failed, group_failed}
 use Rattle.keel_recovery.specs.Machine.{calls_from_append, AwaitsAppend, AwaitsSync, IsCoveredIn, IsOpenCovered}
-use Rattle.keel_recovery.proofs.FirstTests.{none_some}
+use Rattle.keel_machine.proofs.FirstTests.{none_some}
 use Rattle.keel_recovery.proofs.Places.{went_well, went_wrong, make_done, sync_dir_done, add_done, add_published, sync_done, make_failed, sync_dir_failed, add_failed, sync_failed}
 
 pub first_act : (left : List Act) (act first : Act) (later others : List Act) → left ≡ act ∷ later → left ≡ first ∷ others → act ≡ first

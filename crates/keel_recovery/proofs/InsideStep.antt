@@ -22,7 +22,7 @@ use Rattle.keel_recovery.proofs.Acts.{first_act}
 use Rattle.keel_recovery.proofs.Inside.{inside_create, inside_sync_dir, inside_append, inside_sync}
 use Rattle.keel_recovery.proofs.Machine.{covered_open}
 use Rattle.keel_recovery.proofs.Places.{first_limits, limbo_of_trail}
-use Rattle.keel_recovery.proofs.FirstTests.{none_some}
+use Rattle.keel_machine.proofs.FirstTests.{none_some}
 use Rattle.keel_recovery.proofs.Turning.{ready_keeps}
 
 -- ---- a sync that failed

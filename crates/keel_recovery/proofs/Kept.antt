@@ -20,7 +20,7 @@ use Rattle.keel_machine.specs.Writing.{group_plan, formed, started, started_or, 
 use Rattle.keel_machine.specs.WritingAfter.{first_done, group_done, first_failed, group_failed}
 use Rattle.keel_recovery.specs.Steps.{Answer}
 use Rattle.keel_recovery.proofs.OneToOne.{one_create, one_sync_dir, one_append, one_sync}
-use Rattle.keel_recovery.proofs.FirstTests.{none_first, none_later, none_when}
+use Rattle.keel_machine.proofs.FirstTests.{none_first, none_later, none_when}
 
 -- ---- the number of a log that is made is below the end
 

@@ -1,6 +1,5 @@
 pub mod Numbering
-pub mod FirstTests
-pub mod Sizes
+pub pub mod Sizes
 pub mod OneToOne
 pub mod MoreLogs
 pub mod TornLog

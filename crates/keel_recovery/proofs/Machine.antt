@@ -47,7 +47,7 @@ use Rattle.keel_recovery.proofs.Crashing.{crash_keeps}
 use Rattle.keel_recovery.proofs.Kept.{number_below, act_one_to_one, files_started_or, files_done, files_failed}
 use Rattle.keel_recovery.proofs.Opened.{opened_covers, first_stands}
 use Rattle.keel_recovery.proofs.Sizes.{sizes_within}
-use Rattle.keel_recovery.proofs.FirstTests.{none_first, none_later, none_when}
+use Rattle.keel_machine.proofs.FirstTests.{none_first, none_later, none_when}
 use Rattle.keel_recovery.proofs.Turning.{ready_keeps, turned_keeps, queued_keeps}
 
 -- ---- what a covered device gives

@@ -13,7 +13,7 @@ use Rattle.keel_machine.specs.declared.answers.Part.TheVariants as part
 use Rattle.keel_base.specs.Weight.{weight_of}
 use Rattle.keel_machine.specs.Admission.{is_key_length, op_refusal, ops_refusal, size_refusal}
 use Rattle.keel_machine.specs.Tests.{when}
-use Rattle.keel_recovery.proofs.FirstTests.{none_first, none_later, none_when}
+use Rattle.keel_machine.proofs.FirstTests.{none_first, none_later, none_when}
 
 -- a batch of 1 to 1000 ops, with keys and values within their limits
 pub record IsWithinLimits (batch : Batch) : Type 0 where

@@ -18,7 +18,7 @@ use Rattle.keel_machine.specs.Tests.{when, differing}
 use Rattle.keel_machine.specs.Writing.{group_plan, started, started_or, ready, turned_away, rest_in_group, cancelled, write_rest}
 use Rattle.keel_recovery.specs.Batches.{AreBatches}
 use Rattle.keel_recovery.specs.Machine.{ops_waiting, IsInOrder, IsCoveredIn, IsOpenCovered}
-use Rattle.keel_recovery.proofs.FirstTests.{none_some, none_first, none_later, none_mapped}
+use Rattle.keel_machine.proofs.FirstTests.{none_some, none_first, none_later, none_mapped}
 use Rattle.keel_recovery.proofs.Numbering.{batches_append}
 use Rattle.keel_recovery.proofs.Places.{front_batches, counted_append}
 use Rattle.keel_recovery.proofs.Sizes.{IsWithinLimits}
