@@ -149,7 +149,7 @@ impl Queue {
     }
 
     /// The group in flight made this call, and goes on with this act.
-    pub(crate) fn go_on(&mut self, next: Act, call: Call) -> WriteStep
+    pub(crate) fn move_on(&mut self, next: Act, call: Call) -> WriteStep
         ensures step { result ≡ WriteStep.Moved self.old.job call }
         ensures group { self.new.group ≡ with_next next self.old.group }
         ensures waiting { self.new.waiting ≡ self.old.waiting }

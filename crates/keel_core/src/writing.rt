@@ -147,7 +147,7 @@ impl<D: Disk> Core<D> {
         let act = self.next_act();
         match self.make_call(alloc, act) {
             Ok(()) => self.done(act),
-            Err(DiskError::Fault(fault)) => self.failed(act, fault),
+            Err(DiskError::Fault(fault)) => self.give_up(act, fault),
             Err(DiskError::OutOfMemory) => WriteStep::OutOfMemory,
         }
     }
@@ -170,7 +170,7 @@ impl<D: Disk> Core<D> {
             }
             Err(DiskError::Fault(fault)) => {
                 self.form(prepared, act);
-                self.failed(act, fault)
+                self.give_up(act, fault)
             }
             Err(DiskError::OutOfMemory) => WriteStep::OutOfMemory,
         }
@@ -240,18 +240,18 @@ impl<D: Disk> Core<D> {
             Act::MakeLog => {
                 let log = self.next_file;
                 self.next_file = log + 1;
-                self.queue.go_on(Act::SyncDirectory { log }, Call::Create)
+                self.queue.move_on(Act::SyncDirectory { log }, Call::Create)
             }
             Act::SyncDirectory { log } => {
                 self.log = Some(OwnLog {
                     number: log,
                     size: 0,
                 });
-                self.queue.go_on(Act::AddRecords, Call::SyncDir)
+                self.queue.move_on(Act::AddRecords, Call::SyncDir)
             }
             Act::AddRecords => {
                 if self.hand_over() {
-                    self.queue.go_on(Act::SyncLog, Call::Append)
+                    self.queue.move_on(Act::SyncLog, Call::Append)
                 } else {
                     self.publish(false)
                 }
@@ -260,8 +260,8 @@ impl<D: Disk> Core<D> {
         }
     }
 
-    // What an act leaves whose call failed: the group is over, and from now on nothing is written.
-    fn failed(&mut self, act: Act, fault: Fault) -> WriteStep
+    // What an act leaves whose call failed: its group is over, and from now on nothing is written.
+    fn give_up(&mut self, act: Act, fault: Fault) -> WriteStep
         requires next { IsNext act self.old.group }
         requires file { act ≡ Act.MakeLog → self.old.next_file < 2 ^ 56 }
         ensures view { self.new ≡ stopped fault (tried act self.old) }

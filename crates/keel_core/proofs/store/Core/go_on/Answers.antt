@@ -9,7 +9,7 @@ returns-in-Ok-clause-turn g c =
 
 pub returns-in-Err-Fault-clause-turn : goal.returns-in-Err-Fault-clause-turn
 returns-in-Err-Fault-clause-turn g c =
-    rw (c.failed.ensures.view, c.failed.ensures.step)
+    rw (c.give_up.ensures.view, c.give_up.ensures.step)
     (failed_goes c.args.self.now c.make_call.new.self c.next_act-act.result c.in-Err-Fault.fault (next_flies _ _ _ c.requires.some c.next_act-act.ensures.next) c.requires.can.calm
     c.next_act-act.ensures.log (rw c.in-Err-Fault.field-0-is at c.in-Err-Fault.ensures))
 

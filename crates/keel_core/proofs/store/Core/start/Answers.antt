@@ -33,7 +33,7 @@ returns-in-Err-Fault-clause-turn g c =
     let act = c.next_act-act.result in
     let can = c.requires.can in
     let answered = rw c.in-Err-Fault.field-0-is at c.in-Err-Fault.ensures in
-    rw (c.failed.ensures.view, c.failed.ensures.step, c.form-in-Err-Fault.ensures)
+    rw (c.give_up.ensures.view, c.give_up.ensures.step, c.form-in-Err-Fault.ensures)
     (formed_goes old old.waiting old.group act _ _ (can.some (none_there old.group c.requires.none)) c.requires.none c.next_act-act.ensures.next can.file tt
     (failed_goes (formed act old) (formed act now) act c.in-Err-Fault.fault (next_formed act old) can.calm c.next_act-act.ensures.log
     (refused_formed act c.in-Err-Fault.fault old now c.requires.none answered)))

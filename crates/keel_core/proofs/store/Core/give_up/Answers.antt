@@ -3,7 +3,7 @@ use Rattle.keel_machine.specs.declared.answers.Outcome.TheVariants as outcome
 use Rattle.keel_machine.specs.Admission.{tickets_of_group}
 use Rattle.keel_core.specs.Flights.{flying}
 use Rattle.keel_core.proofs.Ordering.{over_in_order, given_settled}
-use Rattle.keel_core.proofs.store.Core.failed.Goals as goal
+use Rattle.keel_core.proofs.store.Core.give_up.Goals as goal
 
 pub invariant_of-self : goal.invariant_of-self
 invariant_of-self g c =
