@@ -7,6 +7,7 @@ pub mod Standing
 pub mod Rooms
 pub mod Ordering
 pub mod Entering
+pub mod Moving
 pub mod Batches
 pub mod Replaying
 pub mod Records
@@ -15,3 +16,4 @@ pub mod Admitting
 pub mod Limits
 pub mod Opened
 pub mod Scans
+pub mod Reading

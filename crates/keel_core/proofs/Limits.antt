@@ -156,15 +156,12 @@ same_behind s batch admit.OutOfMemory bad = absurd bad
 pub refused_goes : (view : CoreView) (batch : Batch) (answer : Admit) → size_refusal batch ≡ Some answer → Turns view (Admitting batch answer) view
 refused_goes view batch answer is =
     let bad : IsBadSize answer = subst WhereBadSize is (bad_size batch) in
-    turns_by_story view view (Admitting batch answer) (λ footing story failures fits stands.
-    let s : State = state_of view footing story failures in (
+    turns_by_story view view (Admitting batch answer) (λ beyond fits.
+    let s : State = state_of view beyond in (
       (bad_answers s batch answer bad is, refl),
       record {
-        footing = footing;
-        story = story;
-        failures = failures;
+        beyond = beyond;
         state_is = ap (with_device view.device) (same_behind s batch answer bad);
-        fits = fits;
-        standing = stands;
+        fits = record { story = fits.story; group = fits.group };
       },
     ))

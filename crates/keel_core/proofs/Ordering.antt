@@ -1,30 +1,33 @@
 -- What is true of every core stays true.
 use Rattle.std.proofs.Common.{◌≡◌, ℕ, ◌+◌, ◌<◌, ◌≤◌, ◌^◌, List, [], ◌∷◌, ◌++◌, length, drop, filter, not, ◌==◌, Option, Some, None, refl, sym, ap, subst, ◌∙◌, arith, add-zero, vec_len, vec_capacity, cond, Bool, true, false}
 use Rattle.std.proofs.lemmas.List.{length-append}
-use Rattle.std.proofs.lemmas.List.Elements.{All-nil}
+use Rattle.std.proofs.lemmas.List.Elements.{All-nil, All-append}
 use Rattle.std.specs.List.{AllByRecursion}
+use Rattle.keel_base.specs.declared.failure.Fault.{Fault}
 use Rattle.keel_base.specs.declared.op.Batch.{Batch}
 use Rattle.keel_base.specs.declared.op.Op.{Op}
+use Rattle.keel_base.specs.Weight.{AreAdmissible}
 use Rattle.keel_group.specs.Forming.{EachIsAdmissible}
 use Rattle.keel_group.specs.Queue.{Ticketed, ticketed, batches_of}
 use Rattle.keel_machine.specs.declared.answers.Outcome.{Outcome}
-use Rattle.keel_machine.specs.Admission.{ops_of, count_ops}
+use Rattle.keel_machine.specs.Admission.{batches_of_group, ops_of, count_ops, tickets_of_group}
+use Rattle.keel_machine.specs.States.{Group, Story, handed, point_of, published}
 use Rattle.keel_machine.specs.WritingAfter.{done_each, seq_behind}
+use Rattle.keel_core.specs.declared.flight.Act.{Act}
 use Rattle.keel_core.specs.declared.log.OwnLog.{OwnLog}
-use Rattle.keel_core.specs.declared.log.OwnLog.TheVariants.{Absent, Created, Ready}
 use Rattle.keel_core.specs.declared.queue.Queue.{Queue}
 use Rattle.keel_core.specs.declared.trail.Trail.{Trail}
-use Rattle.keel_core.specs.Flights.{Flying, flying}
-use Rattle.keel_core.specs.Orders.{IsInOrder, IsReady, IsSettled, IsStaged}
-use Rattle.keel_core.specs.Queues.{batches_in, given, tickets_in, without_batches}
+use Rattle.keel_core.specs.Flights.{flying, next_in}
+use Rattle.keel_core.specs.Orders.{IsInOrder, IsSettled, IsStaged}
+use Rattle.keel_core.specs.Queues.{given, without_batches}
 use Rattle.keel_core.specs.Steps.{all_published}
-use Rattle.keel_core.specs.Trails.{TrailShown, shown, handed, published, point_at}
+use Rattle.keel_core.specs.Trails.{limbo_in, shown}
 use Rattle.keel_core.specs.Views.{CoreView, point_in}
 use Rattle.keel_mem.specs.Shown.{MemShown}
 use Rattle.keel_core.specs.Placing.{batch_rows, bytes_needed}
 use Rattle.keel_core.proofs.Lists.{count_ops-append}
 use Rattle.keel_core.proofs.Rooms.{HasRoomMore, handed_held, joined_held, joined_ops, over_held, published_held, turned_held}
-use Rattle.keel_core.proofs.Stories.{ops_of-append, point_published, seq-fold_batches}
+use Rattle.keel_core.proofs.Stories.{point_published, seq-fold_batches}
 
 -- ---- outcomes
 
@@ -53,29 +56,30 @@ done_settled seq (ticket ∷ tickets) batches = (tt, done_settled (seq_behind se
 
 -- what a queue is behind a group that is over, with these outcomes
 pub record IsOver (old new : Queue) (outcomes : List (ℕ × Outcome)) : Type 0 where
-  pub waiting : new.waiting ≡ old.waiting
+  pub waiting : new.waiting.items ≡ old.waiting.items
   pub group : new.group ≡ None
   pub added : new.outcomes.items ≡ old.outcomes.items ++ outcomes
-  pub len : vec_len new.outcomes ≡ vec_len old.outcomes + length (tickets_in (flying old.group))
+  pub len : vec_len new.outcomes ≡ vec_len old.outcomes + length (tickets_of_group (flying old.group))
   pub room : vec_capacity new.outcomes ≡ vec_capacity old.outcomes
   pub ticket : new.last_ticket ≡ old.last_ticket
   pub job : new.job ≡ old.job
 
-pub over_in_order : (mem : MemShown) (trail : Trail) (old new : Queue) (log behind : OwnLog) (last_seq handed_seq next_file : ℕ) (outcomes : List (ℕ × Outcome))
-    → IsInOrder mem trail old log last_seq handed_seq next_file → IsOver old new outcomes → AllSettled outcomes → IsStaged None behind
-    → IsInOrder mem trail new behind last_seq handed_seq next_file
-over_in_order mem trail old new log behind last_seq handed_seq next_file outcomes order q settled staged =
+pub over_in_order : (mem : MemShown) (trail : Trail) (old new : Queue) (log : Option OwnLog) (failed behind : Option Fault) (last_seq handed_seq next_file : ℕ) (outcomes : List (ℕ × Outcome))
+    → IsInOrder mem trail old log failed last_seq handed_seq next_file → IsOver old new outcomes → AllSettled outcomes
+    → IsInOrder mem trail new log behind last_seq handed_seq next_file
+over_in_order mem trail old new log failed behind last_seq handed_seq next_file outcomes order q settled =
     let waiting = q.waiting in
     let group = q.group in
     record {
       seq = order.seq;
       handed = order.handed;
       enough = rw (group, waiting) (omega (arith, order.enough));
+      limbo = order.limbo;
       group = rw group (All-nil _);
       few = rw group (omega arith);
-      staged = rw group staged;
+      staged = rw group tt;
       settled = rw q.added (all_settled-append old.outcomes.items outcomes order.settled settled);
-      held = rw (group, waiting) (over_held mem (shown trail) (flying old.group) old.waiting order.held);
+      held = rw (group, waiting) (over_held mem (shown trail) (flying old.group) old.waiting.items order.held);
       trail_room = rw (group, waiting) (omega (arith, order.trail_room));
       outcome_room = rw (group, waiting) (omega (arith, order.outcome_room, q.len, q.room));
       job = omega (arith, order.job, q.job);
@@ -88,51 +92,51 @@ over_in_order mem trail old new log behind last_seq handed_seq next_file outcome
 
 -- what a queue is behind batches that were handed out
 pub record IsTakenFrom (old new : Queue) : Type 0 where
-  pub waiting : new.waiting ≡ old.waiting
+  pub waiting : new.waiting.items ≡ old.waiting.items
   pub group : flying new.group ≡ without_batches (flying old.group)
+  pub next : next_in new.group ≡ next_in old.group
   pub outcomes : new.outcomes ≡ old.outcomes
   pub ticket : new.last_ticket ≡ old.last_ticket
   pub job : new.job ≡ old.job
 
-none_left : (group : Option Flying) → batches_in (without_batches group) ≡ []
+-- what a trail is behind batches that were handed to the log
+pub record IsHanded (trail behind : Trail) (batches : List Batch) : Type 0 where
+  pub shows : shown behind ≡ handed (ops_of batches) (shown trail)
+  pub limbo : limbo_in behind ≡ limbo_in trail ++ batches
+  pub len : vec_len behind.batches ≡ vec_len trail.batches + length batches
+  pub room : vec_capacity trail.batches ≤ vec_capacity behind.batches
+
+none_left : (group : Option Group) → batches_of_group (without_batches group) ≡ []
 none_left None = refl
 none_left (Some group) = refl
 
-same_tickets : (group : Option Flying) → tickets_in (without_batches group) ≡ tickets_in group
+same_tickets : (group : Option Group) → tickets_of_group (without_batches group) ≡ tickets_of_group group
 same_tickets None = refl
 same_tickets (Some group) = refl
 
-gone_staged : (group : Option Flying) (log : OwnLog) → IsReady log → IsStaged (without_batches group) log
-gone_staged None (Created number) ready = absurd ready
-gone_staged None Absent ready = tt
-gone_staged None (Ready number size) ready = tt
-gone_staged (Some group) log ready = ready
-
-handed_count : (trail : TrailShown) (batches : List Batch) → count_ops (ops_of (handed batches trail).limbo) ≡ count_ops (ops_of trail.limbo) + count_ops (ops_of batches)
-handed_count trail batches = ap count_ops (ops_of-append trail.limbo batches) ∙ count_ops-append (ops_of trail.limbo) (ops_of batches)
-
-pub handed_in_order : (mem : MemShown) (trail behind : Trail) (old new : Queue) (log : OwnLog) (last_seq handed_seq next_file more : ℕ) (batches : List Batch)
-    → IsInOrder mem trail old log last_seq handed_seq next_file → IsTakenFrom old new → IsReady log → batches ≡ batches_in (flying old.group) → more ≡ count_ops (ops_of batches)
-    → shown behind ≡ handed batches (shown trail) → vec_len behind.batches ≡ vec_len trail.batches + length batches → vec_capacity trail.batches ≤ vec_capacity behind.batches
-    → IsInOrder mem behind new log last_seq (handed_seq + more) next_file
-handed_in_order mem trail behind old new log last_seq handed_seq next_file more batches order q ready taken more_is shows len room =
+pub handed_in_order : (mem : MemShown) (trail behind : Trail) (old new : Queue) (log : Option OwnLog) (failed : Option Fault) (last_seq handed_seq next_file more : ℕ) (batches : List Batch)
+    → IsInOrder mem trail old log failed last_seq handed_seq next_file → IsTakenFrom old new → batches ≡ batches_of_group (flying old.group) → more ≡ count_ops (ops_of batches)
+    → IsHanded trail behind batches
+    → IsInOrder mem behind new log failed last_seq (handed_seq + more) next_file
+handed_in_order mem trail behind old new log failed last_seq handed_seq next_file more batches order q taken more_is h =
     let waiting = q.waiting in
     let group = q.group in
     let none = none_left (flying old.group) in
     let tickets = same_tickets (flying old.group) in
     let ops = ap (λ (l : List Batch). count_ops (ops_of l)) taken in
     let size = ap length taken in
-    let now = ap (λ (t : TrailShown). count_ops (ops_of t.limbo)) shows ∙ handed_count (shown trail) batches in
+    let now = ap (λ (t : Story). count_ops t.limbo) h.shows ∙ count_ops-append (shown trail).limbo (ops_of batches) in
     record {
-      seq = order.seq ∙ ap (λ (t : TrailShown). (point_at t).seq) (sym shows);
+      seq = order.seq ∙ ap (λ (t : Story). (point_of t).seq) (sym h.shows);
       handed = omega (arith, order.handed, more_is, now);
       enough = rw (group, none, waiting) (omega (arith, order.enough, more_is, ops));
+      limbo = subst EachIsAdmissible (sym h.limbo) (All-append (λ (batch : Batch). AreAdmissible batch.ops) (limbo_in trail) batches order.limbo (subst EachIsAdmissible (sym taken) order.group));
       group = rw (group, none) (All-nil _);
       few = rw (group, tickets) order.few;
-      staged = rw group (gone_staged (flying old.group) log ready);
+      staged = subst (λ (next : Option Act). IsStaged next log failed) (sym q.next) order.staged;
       settled = rw q.outcomes order.settled;
-      held = rw (shows, group, waiting) (handed_held mem (shown trail) (flying old.group) old.waiting batches taken none (subst EachIsAdmissible (sym taken) order.group) order.held);
-      trail_room = rw (group, none, waiting) (omega (arith, order.trail_room, len, size, room));
+      held = rw (h.shows, group, waiting) (handed_held mem (shown trail) (flying old.group) old.waiting.items batches taken none order.held);
+      trail_room = rw (group, none, waiting) (omega (arith, order.trail_room, h.len, size, h.room));
       outcome_room = rw (group, tickets, waiting, q.outcomes) order.outcome_room;
       job = omega (arith, order.job, q.job);
       ticket = omega (arith, order.ticket, q.ticket);
@@ -142,40 +146,42 @@ handed_in_order mem trail behind old new log last_seq handed_seq next_file more 
 
 -- ---- batches are published
 
-pub seq_published : (trail : TrailShown) (sync : Bool) (last_seq handed_seq : ℕ) → last_seq ≡ (point_at trail).seq → handed_seq ≡ last_seq + count_ops (ops_of trail.limbo)
-    → handed_seq ≡ (point_at (published sync trail)).seq
+pub seq_published : (trail : Story) (sync : Bool) (last_seq handed_seq : ℕ) → last_seq ≡ (point_of trail).seq → handed_seq ≡ last_seq + count_ops trail.limbo
+    → handed_seq ≡ (point_of (published sync trail)).seq
 seq_published trail sync last_seq handed_seq last handed_is =
-    omega (arith, last, handed_is, ap (λ p. p.seq) (point_published trail sync), seq-fold_batches (point_at trail) (ops_of trail.limbo))
-
-over_staged : (log : OwnLog) → IsReady log → IsStaged None log
-over_staged Absent ready = absurd ready
-over_staged (Created number) ready = absurd ready
-over_staged (Ready number size) ready = tt
+    omega (arith, last, handed_is, ap (λ p. p.seq) (point_published trail sync), seq-fold_batches (point_of trail) trail.limbo)
 
 -- the rows of what was in limbo are in the memtable
-pub record ArePlaced (mem behind : MemShown) (trail : TrailShown) : Type 0 where
-  pub rows : behind.rows ≡ mem.rows ++ batch_rows ((point_at trail).seq + 1) (ops_of trail.limbo)
+pub record ArePlaced (mem behind : MemShown) (trail : Story) : Type 0 where
+  pub rows : behind.rows ≡ mem.rows ++ batch_rows ((point_of trail).seq + 1) trail.limbo
   pub bytes : behind.bytes + bytes_needed trail.limbo ≡ mem.bytes
-  pub entries : behind.entries + count_ops (ops_of trail.limbo) ≡ mem.entries
+  pub entries : behind.entries + count_ops trail.limbo ≡ mem.entries
+
+-- what a trail is behind a publication
+pub record IsPublished (sync : Bool) (trail behind : Trail) : Type 0 where
+  pub shows : shown behind ≡ published sync (shown trail)
+  pub limbo : limbo_in behind ≡ []
+  pub len : vec_len behind.batches ≡ vec_len trail.batches
+  pub room : vec_capacity behind.batches ≡ vec_capacity trail.batches
 
 -- what was in limbo was published, and the group is over
-pub published_in_order : (mem more_mem : MemShown) (trail behind : Trail) (old new : Queue) (log : OwnLog) (last_seq handed_seq next_file : ℕ) (sync : Bool) (outcomes : List (ℕ × Outcome))
-    → IsInOrder mem trail old log last_seq handed_seq next_file → IsOver old new outcomes → AllSettled outcomes → IsReady log
-    → shown behind ≡ published sync (shown trail) → vec_len behind.batches ≡ vec_len trail.batches → vec_capacity behind.batches ≡ vec_capacity trail.batches
+pub published_in_order : (mem more_mem : MemShown) (trail behind : Trail) (old new : Queue) (log : Option OwnLog) (failed : Option Fault) (last_seq handed_seq next_file : ℕ) (sync : Bool) (outcomes : List (ℕ × Outcome))
+    → IsInOrder mem trail old log failed last_seq handed_seq next_file → IsOver old new outcomes → AllSettled outcomes → IsPublished sync trail behind
     → ArePlaced mem more_mem (shown trail)
-    → IsInOrder more_mem behind new log handed_seq handed_seq next_file
-published_in_order mem more_mem trail behind old new log last_seq handed_seq next_file sync outcomes order q settled ready shows len room placed =
-    let over = over_in_order mem trail old new log log last_seq handed_seq next_file outcomes order q settled (over_staged log ready) in
+    → IsInOrder more_mem behind new log failed handed_seq handed_seq next_file
+published_in_order mem more_mem trail behind old new log failed last_seq handed_seq next_file sync outcomes order q settled t placed =
+    let over = over_in_order mem trail old new log failed failed last_seq handed_seq next_file outcomes order q settled in
     record {
-      seq = seq_published (shown trail) sync last_seq handed_seq order.seq order.handed ∙ ap (λ (t : TrailShown). (point_at t).seq) (sym shows);
-      handed = subst (λ (t : TrailShown). handed_seq ≡ handed_seq + count_ops (ops_of t.limbo)) (sym shows) (sym (add-zero handed_seq));
+      seq = seq_published (shown trail) sync last_seq handed_seq order.seq order.handed ∙ ap (λ (s : Story). (point_of s).seq) (sym t.shows);
+      handed = subst (λ (s : Story). handed_seq ≡ handed_seq + count_ops s.limbo) (sym t.shows) (sym (add-zero handed_seq));
       enough = over.enough;
+      limbo = subst EachIsAdmissible (sym t.limbo) (All-nil _);
       group = over.group;
       few = over.few;
       staged = over.staged;
       settled = over.settled;
-      held = rw (shows, q.group, q.waiting) (published_held mem more_mem (shown trail) (flying old.group) old.waiting sync order.held placed.rows placed.bytes placed.entries);
-      trail_room = omega (arith, over.trail_room, len, room);
+      held = rw (t.shows, q.group, q.waiting) (published_held mem more_mem (shown trail) (flying old.group) old.waiting.items sync order.held placed.rows placed.bytes placed.entries);
+      trail_room = omega (arith, over.trail_room, t.len, t.room);
       outcome_room = over.outcome_room;
       job = over.job;
       ticket = over.ticket;
@@ -184,33 +190,34 @@ published_in_order mem more_mem trail behind old new log last_seq handed_seq nex
     }
 
 -- what is shown behind a publication
-pub published_view : (sync : Bool) (view : CoreView) (trail : TrailShown) (waiting : List Ticketed) (group : Option Flying) (outcomes : List (ℕ × Outcome)) (last_ticket job last : ℕ) (limbo : List Batch)
-    → trail ≡ published sync view.trail → waiting ≡ view.waiting → group ≡ None → outcomes ≡ view.outcomes ++ done_each last (tickets_in view.group) (ops_of limbo)
+pub published_view : (sync : Bool) (view : CoreView) (trail : Story) (waiting : List Ticketed) (group : Option Group) (outcomes : List (ℕ × Outcome)) (last_ticket job last : ℕ) (limbo : List (List Op))
+    → trail ≡ published sync view.trail → waiting ≡ view.waiting → group ≡ None → outcomes ≡ view.outcomes ++ done_each last (tickets_of_group view.group) limbo
     → last_ticket ≡ view.last_ticket → job ≡ view.job → last ≡ (point_in view).seq → limbo ≡ view.trail.limbo
     → (record view { trail = trail; waiting = waiting; group = group; outcomes = outcomes; last_ticket = last_ticket; job = job }) ≡ all_published sync view
 published_view sync view trail waiting group outcomes last_ticket job last limbo t w g o l j n m = λ i. record {
   device = view.device;
   trail = t i;
-  stage = view.stage;
+  log = view.log;
   waiting = w i;
   group = g i;
-  outcomes = (o ∙ (λ k. view.outcomes ++ done_each (n k) (tickets_in view.group) (ops_of (m k)))) i;
+  outcomes = (o ∙ (λ k. view.outcomes ++ done_each (n k) (tickets_of_group view.group) (m k))) i;
   last_ticket = l i;
   job = j i;
-  standing = view.standing;
+  failed = view.failed;
   next_file = view.next_file;
 }
 
 -- ---- an outcome was taken
 
-pub taken_in_order : (mem : MemShown) (trail : Trail) (old new : Queue) (log : OwnLog) (last_seq handed_seq next_file ticket : ℕ)
-    → IsInOrder mem trail old log last_seq handed_seq next_file → new.waiting ≡ old.waiting → new.group ≡ old.group
+pub taken_in_order : (mem : MemShown) (trail : Trail) (old new : Queue) (log : Option OwnLog) (failed : Option Fault) (last_seq handed_seq next_file ticket : ℕ)
+    → IsInOrder mem trail old log failed last_seq handed_seq next_file → new.waiting.items ≡ old.waiting.items → new.group ≡ old.group
     → new.outcomes.items ≡ filter (λ entry. not (entry.0 == ticket)) old.outcomes.items → vec_len new.outcomes ≤ vec_len old.outcomes
     → vec_capacity new.outcomes ≡ vec_capacity old.outcomes → new.last_ticket ≡ old.last_ticket → new.job ≡ old.job
-    → IsInOrder mem trail new log last_seq handed_seq next_file
-taken_in_order mem trail old new log last_seq handed_seq next_file ticket order waiting group outcomes len room last job = record {
+    → IsInOrder mem trail new log failed last_seq handed_seq next_file
+taken_in_order mem trail old new log failed last_seq handed_seq next_file ticket order waiting group outcomes len room last job = record {
   seq = order.seq;
   handed = order.handed;
+  limbo = order.limbo;
   enough = rw (group, waiting) order.enough;
   group = rw group order.group;
   few = rw group order.few;
@@ -227,20 +234,21 @@ taken_in_order mem trail old new log last_seq handed_seq next_file ticket order 
 
 -- ---- those that wait were turned away
 
-pub turned_in_order : (mem : MemShown) (trail : Trail) (old new : Queue) (log : OwnLog) (last_seq handed_seq next_file : ℕ) (outcomes : List (ℕ × Outcome))
-    → IsInOrder mem trail old log last_seq handed_seq next_file → new.waiting ≡ [] → new.group ≡ old.group
-    → new.outcomes.items ≡ old.outcomes.items ++ outcomes → AllSettled outcomes → vec_len new.outcomes ≡ vec_len old.outcomes + length old.waiting
+pub turned_in_order : (mem : MemShown) (trail : Trail) (old new : Queue) (log : Option OwnLog) (failed : Option Fault) (last_seq handed_seq next_file : ℕ) (outcomes : List (ℕ × Outcome))
+    → IsInOrder mem trail old log failed last_seq handed_seq next_file → new.waiting.items ≡ [] → new.group ≡ old.group
+    → new.outcomes.items ≡ old.outcomes.items ++ outcomes → AllSettled outcomes → vec_len new.outcomes ≡ vec_len old.outcomes + length old.waiting.items
     → vec_capacity new.outcomes ≡ vec_capacity old.outcomes → new.last_ticket ≡ old.last_ticket → new.job ≡ old.job
-    → IsInOrder mem trail new log last_seq handed_seq next_file
-turned_in_order mem trail old new log last_seq handed_seq next_file outcomes order waiting group added settled len room last job = record {
+    → IsInOrder mem trail new log failed last_seq handed_seq next_file
+turned_in_order mem trail old new log failed last_seq handed_seq next_file outcomes order waiting group added settled len room last job = record {
   seq = order.seq;
   handed = order.handed;
+  limbo = order.limbo;
   enough = rw (group, waiting) (omega (arith, order.enough));
   group = rw group order.group;
   few = rw group order.few;
   staged = rw group order.staged;
   settled = rw added (all_settled-append old.outcomes.items outcomes order.settled settled);
-  held = rw (group, waiting) (turned_held mem (shown trail) (flying old.group) old.waiting order.held);
+  held = rw (group, waiting) (turned_held mem (shown trail) (flying old.group) old.waiting.items order.held);
   trail_room = rw (group, waiting) (omega (arith, order.trail_room));
   outcome_room = rw (group, waiting) (omega (arith, order.outcome_room, len, room));
   job = omega (arith, order.job, job);
@@ -254,34 +262,36 @@ turned_in_order mem trail old new log last_seq handed_seq next_file outcomes ord
 -- what a queue and a trail are behind a batch that was queued
 pub record IsJoined (trail behind : Trail) (old new : Queue) (batch : Batch) : Type 0 where
   pub shows : shown behind ≡ shown trail
-  pub trail_room : vec_len behind.batches + (length (batches_in (flying old.group)) + length old.waiting + 1) ≤ vec_capacity behind.batches
-  pub waiting : new.waiting ≡ old.waiting ++ ticketed (old.last_ticket + 1) batch ∷ []
+  pub limbo : limbo_in behind ≡ limbo_in trail
+  pub trail_room : vec_len behind.batches + (length (batches_of_group (flying old.group)) + length old.waiting.items + 1) ≤ vec_capacity behind.batches
+  pub waiting : new.waiting.items ≡ old.waiting.items ++ ticketed (old.last_ticket + 1) batch ∷ []
   pub group : new.group ≡ old.group
   pub outcomes : new.outcomes.items ≡ old.outcomes.items
-  pub outcome_room : vec_len new.outcomes + (length (tickets_in (flying old.group)) + length old.waiting + 1) ≤ vec_capacity new.outcomes
+  pub outcome_room : vec_len new.outcomes + (length (tickets_of_group (flying old.group)) + length old.waiting.items + 1) ≤ vec_capacity new.outcomes
   pub ticket : new.last_ticket ≡ old.last_ticket + 1
   pub job : new.job ≡ old.job
 
-pub joined_in_order : (mem more_mem : MemShown) (trail behind : Trail) (old new : Queue) (log : OwnLog) (last_seq handed_seq next_file : ℕ) (batch : Batch)
-    → IsInOrder mem trail old log last_seq handed_seq next_file → IsJoined trail behind old new batch
-    → handed_seq + (count_ops (ops_of (batches_in (flying old.group))) + count_ops (ops_of (batches_of old.waiting))) + length batch.ops ≤ 2 ^ 56 → old.last_ticket < 2 ^ 56 → HasRoomMore mem more_mem batch.ops
-    → IsInOrder more_mem behind new log last_seq handed_seq next_file
-joined_in_order mem more_mem trail behind old new log last_seq handed_seq next_file batch order r enough ticket room_more =
+pub joined_in_order : (mem more_mem : MemShown) (trail behind : Trail) (old new : Queue) (log : Option OwnLog) (failed : Option Fault) (last_seq handed_seq next_file : ℕ) (batch : Batch)
+    → IsInOrder mem trail old log failed last_seq handed_seq next_file → IsJoined trail behind old new batch
+    → handed_seq + (count_ops (ops_of (batches_of_group (flying old.group))) + count_ops (ops_of (batches_of old.waiting.items))) + length batch.ops ≤ 2 ^ 56 → old.last_ticket < 2 ^ 56 → HasRoomMore mem more_mem batch.ops
+    → IsInOrder more_mem behind new log failed last_seq handed_seq next_file
+joined_in_order mem more_mem trail behind old new log failed last_seq handed_seq next_file batch order r enough ticket room_more =
     let group = r.group in
     let waiting = r.waiting in
     let member : List Ticketed = ticketed (old.last_ticket + 1) batch ∷ [] in
     let one : length member ≡ 1 = refl in
-    let size = length-append old.waiting member in
-    let ops = joined_ops old.waiting (old.last_ticket + 1) batch in
+    let size = length-append old.waiting.items member in
+    let ops = joined_ops old.waiting.items (old.last_ticket + 1) batch in
     record {
-      seq = order.seq ∙ ap (λ (t : TrailShown). (point_at t).seq) (sym r.shows);
-      handed = subst (λ (t : TrailShown). handed_seq ≡ last_seq + count_ops (ops_of t.limbo)) (sym r.shows) order.handed;
+      seq = order.seq ∙ ap (λ (t : Story). (point_of t).seq) (sym r.shows);
+      handed = subst (λ (t : Story). handed_seq ≡ last_seq + count_ops t.limbo) (sym r.shows) order.handed;
+      limbo = subst EachIsAdmissible (sym r.limbo) order.limbo;
       enough = rw (group, waiting) (omega (arith, enough, ops));
       group = rw group order.group;
       few = rw group order.few;
       staged = rw group order.staged;
       settled = rw r.outcomes order.settled;
-      held = rw (r.shows, group, waiting) (joined_held mem more_mem (shown trail) (flying old.group) old.waiting (old.last_ticket + 1) batch order.held room_more);
+      held = rw (r.shows, group, waiting) (joined_held mem more_mem (shown trail) (flying old.group) old.waiting.items (old.last_ticket + 1) batch order.held room_more);
       trail_room = rw (group, waiting) (omega (arith, r.trail_room, size, one));
       outcome_room = rw (group, waiting) (omega (arith, r.outcome_room, size, one));
       job = omega (arith, order.job, r.job);

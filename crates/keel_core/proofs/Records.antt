@@ -8,11 +8,11 @@ pub records_next : (size : ℕ) (bytes made all payload : List ℕ) (rest : List
     → bytes ++ records_bytes (size + length bytes) (payload ∷ rest) ≡ all → (bytes ++ made) ++ records_bytes (size + length (bytes ++ made)) rest ≡ all
 unfolding records_bytes
 records_next size bytes made all payload rest is whole =
-    let place = size + length bytes in
-    let at : size + length (bytes ++ made) ≡ place + length (record_bytes place payload) = omega (arith, length-append bytes made, ap length is) in
+    let offset = size + length bytes in
+    let at : size + length (bytes ++ made) ≡ offset + length (record_bytes offset payload) = omega (arith, length-append bytes made, ap length is) in
     append_assoc bytes made (records_bytes (size + length (bytes ++ made)) rest) ∙ ap (λ l. bytes ++ l) (λ i. is i ++ records_bytes (at i) rest) ∙ whole
 
 -- none is left
-pub records_end : (place : ℕ) (bytes all : List ℕ) → bytes ++ records_bytes place [] ≡ all → bytes ≡ all
+pub records_end : (offset : ℕ) (bytes all : List ℕ) → bytes ++ records_bytes offset [] ≡ all → bytes ≡ all
 unfolding records_bytes
-records_end place bytes all whole = sym (append-nil bytes) ∙ whole
+records_end offset bytes all whole = sym (append-nil bytes) ∙ whole

@@ -1,25 +1,21 @@
 -- The memtable is the fold of the published batches, and has the room for those on their way.
 use Rattle.std.proofs.Common.{◌≡◌, ℕ, ◌+◌, ◌<◌, Bool, List, [], ◌∷◌, ◌++◌, length, Option, None, refl, sym, ap, subst, ◌∙◌, arith, append_assoc, append-nil}
 use Rattle.std.specs.Prelude.{All}
-use Rattle.std.proofs.lemmas.List.Elements.{All-nil, All-append}
 use Rattle.keel_base.specs.declared.op.Batch.{Batch}
 use Rattle.keel_base.specs.declared.op.Op.{Op}
 use Rattle.keel_base.specs.declared.row.Row.{Row}
 use Rattle.keel_base.specs.Points.{Point, after_batch, fold_batches}
 use Rattle.keel_base.specs.Rows.{IsMapOf, op_row, op_rows}
-use Rattle.keel_base.specs.Weight.{AreAdmissible}
-use Rattle.keel_group.specs.Forming.{EachIsAdmissible}
 use Rattle.keel_group.specs.Queue.{Ticketed, ticketed, batches_of}
-use Rattle.keel_machine.specs.Admission.{count_ops, ops_of}
+use Rattle.keel_machine.specs.Admission.{batches_of_group, count_ops, ops_of}
+use Rattle.keel_machine.specs.States.{Group, Story, handed, point_of, published}
 use Rattle.keel_mem.specs.Needs.{bytes_of}
 use Rattle.keel_mem.specs.Shown.{MemShown}
 use Rattle.keel_mem.proofs.Folding.{below_next, rows_fold}
-use Rattle.keel_core.specs.Flights.{Flying}
 use Rattle.keel_core.specs.Placing.{IsHeld, IsPlaced, batch_rows, bytes_needed}
-use Rattle.keel_core.specs.Queues.{batches_in, without_batches}
-use Rattle.keel_core.specs.Trails.{TrailShown, handed, point_at, published}
+use Rattle.keel_core.specs.Queues.{without_batches}
 use Rattle.keel_core.proofs.Lists.{count_ops-append}
-use Rattle.keel_core.proofs.Stories.{ops_of-append, point_published}
+use Rattle.keel_core.proofs.Stories.{point_published}
 
 -- ---- rows of batches
 
@@ -56,48 +52,46 @@ all_placed rows point (ops ∷ batches) map below =
 
 -- ---- room
 
-pub bytes_needed-append : (front back : List Batch) → bytes_needed (front ++ back) ≡ bytes_needed front + bytes_needed back
+pub bytes_needed-append : (front back : List (List Op)) → bytes_needed (front ++ back) ≡ bytes_needed front + bytes_needed back
 bytes_needed-append [] back = omega arith
-bytes_needed-append (batch ∷ front) back =
+bytes_needed-append (ops ∷ front) back =
     let rest = bytes_needed-append front back in
-    let left : bytes_needed ((batch ∷ front) ++ back) ≡ bytes_of batch.ops + bytes_needed (front ++ back) = refl in
-    let right : bytes_needed (batch ∷ front) ≡ bytes_of batch.ops + bytes_needed front = refl in
+    let left : bytes_needed ((ops ∷ front) ++ back) ≡ bytes_of ops + bytes_needed (front ++ back) = refl in
+    let right : bytes_needed (ops ∷ front) ≡ bytes_of ops + bytes_needed front = refl in
     omega (arith, rest, left, right)
 
-pub over_held : (mem : MemShown) (trail : TrailShown) (group : Option Flying) (waiting : List Ticketed) → IsHeld mem trail group waiting → IsHeld mem trail None waiting
-over_held mem trail group waiting h = record { limbo = h.limbo; placed = h.placed; bytes = omega (arith, h.bytes); entries = omega (arith, h.entries) }
+pub over_held : (mem : MemShown) (trail : Story) (group : Option Group) (waiting : List Ticketed) → IsHeld mem trail group waiting → IsHeld mem trail None waiting
+over_held mem trail group waiting h = record { placed = h.placed; bytes = omega (arith, h.bytes); entries = omega (arith, h.entries) }
 
-pub turned_held : (mem : MemShown) (trail : TrailShown) (group : Option Flying) (waiting : List Ticketed) → IsHeld mem trail group waiting → IsHeld mem trail group []
-turned_held mem trail group waiting h = record { limbo = h.limbo; placed = h.placed; bytes = omega (arith, h.bytes); entries = omega (arith, h.entries) }
+pub turned_held : (mem : MemShown) (trail : Story) (group : Option Group) (waiting : List Ticketed) → IsHeld mem trail group waiting → IsHeld mem trail group []
+turned_held mem trail group waiting h = record { placed = h.placed; bytes = omega (arith, h.bytes); entries = omega (arith, h.entries) }
 
-pub handed_held : (mem : MemShown) (trail : TrailShown) (group : Option Flying) (waiting : List Ticketed) (batches : List Batch)
-    → batches ≡ batches_in group → batches_in (without_batches group) ≡ [] → EachIsAdmissible batches → IsHeld mem trail group waiting
-    → IsHeld mem (handed batches trail) (without_batches group) waiting
-handed_held mem trail group waiting batches taken none each h =
-    let bytes = ap bytes_needed taken in
+pub handed_held : (mem : MemShown) (trail : Story) (group : Option Group) (waiting : List Ticketed) (batches : List Batch)
+    → batches ≡ batches_of_group group → batches_of_group (without_batches group) ≡ [] → IsHeld mem trail group waiting
+    → IsHeld mem (handed (ops_of batches) trail) (without_batches group) waiting
+handed_held mem trail group waiting batches taken none h =
+    let bytes = ap (λ (l : List Batch). bytes_needed (ops_of l)) taken in
     let ops = ap (λ (l : List Batch). count_ops (ops_of l)) taken in
-    let no_bytes = ap bytes_needed none in
+    let no_bytes = ap (λ (l : List Batch). bytes_needed (ops_of l)) none in
     let no_ops = ap (λ (l : List Batch). count_ops (ops_of l)) none in
-    let more = bytes_needed-append trail.limbo batches in
-    let longer = ap count_ops (ops_of-append trail.limbo batches) ∙ count_ops-append (ops_of trail.limbo) (ops_of batches) in
+    let more = bytes_needed-append trail.limbo (ops_of batches) in
+    let longer = count_ops-append trail.limbo (ops_of batches) in
     record {
-      limbo = All-append (λ (batch : Batch). AreAdmissible batch.ops) trail.limbo batches h.limbo each;
       placed = h.placed;
       bytes = omega (arith, h.bytes, bytes, no_bytes, more);
       entries = omega (arith, h.entries, ops, no_ops, longer);
     }
 
-pub published_held : (mem behind : MemShown) (trail : TrailShown) (group : Option Flying) (waiting : List Ticketed) (sync : Bool) → IsHeld mem trail group waiting
-    → behind.rows ≡ mem.rows ++ batch_rows ((point_at trail).seq + 1) (ops_of trail.limbo) → behind.bytes + bytes_needed trail.limbo ≡ mem.bytes
-    → behind.entries + count_ops (ops_of trail.limbo) ≡ mem.entries → IsHeld behind (published sync trail) None waiting
+pub published_held : (mem behind : MemShown) (trail : Story) (group : Option Group) (waiting : List Ticketed) (sync : Bool) → IsHeld mem trail group waiting
+    → behind.rows ≡ mem.rows ++ batch_rows ((point_of trail).seq + 1) trail.limbo → behind.bytes + bytes_needed trail.limbo ≡ mem.bytes
+    → behind.entries + count_ops trail.limbo ≡ mem.entries → IsHeld behind (published sync trail) None waiting
 published_held mem behind trail group waiting sync h rows bytes entries =
-    let all = all_placed mem.rows (point_at trail) (ops_of trail.limbo) h.placed.map h.placed.below in
+    let all = all_placed mem.rows (point_of trail) trail.limbo h.placed.map h.placed.below in
     let point = sym (point_published trail sync) in
     record {
-      limbo = All-nil _;
       placed = record {
-        map = subst (λ (p : Point). IsMapOf behind.rows p.values) point (subst (λ l. IsMapOf l (fold_batches (point_at trail) (ops_of trail.limbo)).values) (sym rows) all.0);
-        below = subst (λ (p : Point). All (λ (row : Row). row.seq < p.seq + 1) behind.rows) point (subst (All (λ (row : Row). row.seq < (fold_batches (point_at trail) (ops_of trail.limbo)).seq + 1)) (sym rows) all.1);
+        map = subst (λ (p : Point). IsMapOf behind.rows p.values) point (subst (λ l. IsMapOf l (fold_batches (point_of trail) trail.limbo).values) (sym rows) all.0);
+        below = subst (λ (p : Point). All (λ (row : Row). row.seq < p.seq + 1) behind.rows) point (subst (All (λ (row : Row). row.seq < (fold_batches (point_of trail) trail.limbo).seq + 1)) (sym rows) all.1);
       };
       bytes = omega (arith, h.bytes, bytes);
       entries = omega (arith, h.entries, entries);
@@ -109,12 +103,13 @@ same_placed mem behind point rows h = record {
   below = subst (All (λ (row : Row). row.seq < point.seq + 1)) (sym rows) h.below;
 }
 
-joined_bytes : (waiting : List Ticketed) (ticket : ℕ) (batch : Batch) → bytes_needed (batches_of (waiting ++ ticketed ticket batch ∷ [])) ≡ bytes_needed (batches_of waiting) + bytes_of batch.ops
+joined_bytes : (waiting : List Ticketed) (ticket : ℕ) (batch : Batch)
+    → bytes_needed (ops_of (batches_of (waiting ++ ticketed ticket batch ∷ []))) ≡ bytes_needed (ops_of (batches_of waiting)) + bytes_of batch.ops
 joined_bytes [] ticket batch = omega arith
 joined_bytes (first ∷ waiting) ticket batch =
     let rest = joined_bytes waiting ticket batch in
-    let whole : bytes_needed (batches_of ((first ∷ waiting) ++ ticketed ticket batch ∷ [])) ≡ bytes_of first.batch.ops + bytes_needed (batches_of (waiting ++ ticketed ticket batch ∷ [])) = refl in
-    let part : bytes_needed (batches_of (first ∷ waiting)) ≡ bytes_of first.batch.ops + bytes_needed (batches_of waiting) = refl in
+    let whole : bytes_needed (ops_of (batches_of ((first ∷ waiting) ++ ticketed ticket batch ∷ []))) ≡ bytes_of first.batch.ops + bytes_needed (ops_of (batches_of (waiting ++ ticketed ticket batch ∷ []))) = refl in
+    let part : bytes_needed (ops_of (batches_of (first ∷ waiting))) ≡ bytes_of first.batch.ops + bytes_needed (ops_of (batches_of waiting)) = refl in
     omega (arith, rest, whole, part)
 
 pub joined_ops : (waiting : List Ticketed) (ticket : ℕ) (batch : Batch)
@@ -132,20 +127,18 @@ pub record HasRoomMore (mem behind : MemShown) (ops : List Op) : Type 0 where
   pub bytes : behind.bytes ≡ mem.bytes + bytes_of ops
   pub entries : behind.entries ≡ mem.entries + length ops
 
-pub reserved_held : (mem behind : MemShown) (trail : TrailShown) (group : Option Flying) (waiting : List Ticketed) (ops : List Op) → IsHeld mem trail group waiting → HasRoomMore mem behind ops
+pub reserved_held : (mem behind : MemShown) (trail : Story) (group : Option Group) (waiting : List Ticketed) (ops : List Op) → IsHeld mem trail group waiting → HasRoomMore mem behind ops
     → IsHeld behind trail group waiting
 reserved_held mem behind trail group waiting ops h r = record {
-  limbo = h.limbo;
-  placed = same_placed mem behind (point_at trail) r.rows h.placed;
+  placed = same_placed mem behind (point_of trail) r.rows h.placed;
   bytes = omega (arith, h.bytes, r.bytes);
   entries = omega (arith, h.entries, r.entries);
 }
 
-pub joined_held : (mem behind : MemShown) (trail : TrailShown) (group : Option Flying) (waiting : List Ticketed) (ticket : ℕ) (batch : Batch) → IsHeld mem trail group waiting
+pub joined_held : (mem behind : MemShown) (trail : Story) (group : Option Group) (waiting : List Ticketed) (ticket : ℕ) (batch : Batch) → IsHeld mem trail group waiting
     → HasRoomMore mem behind batch.ops → IsHeld behind trail group (waiting ++ ticketed ticket batch ∷ [])
 joined_held mem behind trail group waiting ticket batch h r = record {
-  limbo = h.limbo;
-  placed = same_placed mem behind (point_at trail) r.rows h.placed;
+  placed = same_placed mem behind (point_of trail) r.rows h.placed;
   bytes = omega (arith, h.bytes, r.bytes, joined_bytes waiting ticket batch);
   entries = omega (arith, h.entries, r.entries, joined_ops waiting ticket batch);
 }

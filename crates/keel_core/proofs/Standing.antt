@@ -1,539 +1,352 @@
 -- A step of the core is a step of the machine, over plain values.
-use Rattle.std.proofs.Common.{◌≡◌, ◌≢◌, ℕ, ◌+◌, ◌<◌, ◌^◌, Bool, true, false, List, [], ◌∷◌, ◌++◌, length, drop, Option, Some, None, Ok, Err, refl, sym, ap, subst, ◌∙◌}
-use Rattle.keel_base.specs.declared.failure.Call.TheVariants as call
+use Rattle.std.proofs.Common.{◌≡◌, ℕ, zero, suc, ◌+◌, ◌++◌, Bool, true, false, List, [], ◌∷◌, drop, length, Option, Some, None, Ok, Err, option_map, unwrap_or, refl, sym, ap, subst, ◌∙◌, arith}
 use Rattle.keel_base.specs.declared.failure.Failure.{Failure}
 use Rattle.keel_base.specs.declared.failure.Fault.{Fault}
 use Rattle.keel_base.specs.declared.file_name.FileName.TheVariants.{Log}
-use Rattle.keel_base.specs.declared.op.Batch.{Batch}
 use Rattle.keel_base.specs.declared.op.Op.{Op}
 use Rattle.keel_base.specs.Points.{Point}
+use Rattle.keel_batch.specs.Batches.{payloads_behind}
 use Rattle.keel_disk.specs.declared.change.Change.{Change}
-use Rattle.keel_disk.specs.declared.change.Change.TheVariants.{Create, Append, Sync, SyncDir}
+use Rattle.keel_disk.specs.declared.change.Change.TheVariants as change
 use Rattle.keel_disk.specs.declared.error.DiskError.TheVariants as error
-use Rattle.keel_frag.specs.Writing.{records_bytes}
-use Rattle.keel_group.specs.Queue.{Ticketed}
-use Rattle.keel_group.specs.Forming.{next_size}
 use Rattle.keel_disk.specs.Seen.{Calls, Seen}
-use Rattle.keel_machine.specs.declared.answers.Outcome.{Outcome}
+use Rattle.keel_frag.specs.Writing.{records_bytes}
+use Rattle.keel_machine.specs.declared.answers.Outcome.TheVariants as outcome
 use Rattle.keel_machine.specs.declared.steps.WriteStep.TheVariants as step
-use Rattle.keel_machine.specs.Admission.{ops_of}
-use Rattle.keel_machine.specs.States.{State, Story, Footing, point_of, MakeLog, SyncDirectory, AddRecords, SyncLog}
-use Rattle.keel_machine.specs.Writing.{payloads_from}
-use Rattle.keel_machine.specs.WritingAfter.{done_each, failure_of, handed_over, story_published}
+use Rattle.keel_machine.specs.declared.answers.Outcome.{Outcome}
+use Rattle.keel_machine.specs.Admission.{last_seq, ops_of}
+use Rattle.keel_machine.specs.Outside.{as_answer}
+use Rattle.keel_machine.specs.States as states
+use Rattle.keel_machine.specs.States.{State, Story, Group, SegmentLog, IsPartOf, handed, left_of, point_of, published}
+use Rattle.keel_machine.specs.Writing as machine
+use Rattle.keel_machine.specs.Writing.{write_rest}
+use Rattle.keel_machine.specs.WritingAfter as machine_after
+use Rattle.keel_machine.specs.WritingAfter.{IsMove, MadeCall, act_done, act_failed, done_each, failure_of, first_done, first_failed, log_failed, one_more}
+use Rattle.keel_core.specs.declared.flight.Act.{Act}
+use Rattle.keel_core.specs.declared.flight.Act.TheVariants.{MakeLog, SyncDirectory, AddRecords, SyncLog}
 use Rattle.keel_core.specs.declared.log.OwnLog.{OwnLog}
-use Rattle.keel_core.specs.declared.log.OwnLog.TheVariants.{Absent, Created, Ready}
-use Rattle.keel_core.specs.Flights.{Flying}
-use Rattle.keel_core.specs.Orders.{IsStaged}
-use Rattle.keel_core.specs.Queues.{batches_next, group_entered, is_synced, job_entered, next_group, tickets_in, waiting_entered, without_batches}
+use Rattle.keel_core.specs.Flights.{act_of, later_than, logs_of, made_log}
+use Rattle.keel_core.specs.Orders.{HasLog}
+use Rattle.keel_core.specs.Queues.{given, has_more}
 use Rattle.keel_core.specs.Steps as steps
-use Rattle.keel_core.specs.Steps.{stopped, all_published, NumberIs, IsGone}
-use Rattle.keel_core.specs.Trails.{TrailShown, handed, published, point_at}
-use Rattle.keel_core.specs.Views.{CoreView, Fits, MakesCall, state_of, point_in, shown_group, sync_act}
-use Rattle.keel_core.proofs.Calling.{quiet_same, quiet_want}
-use Rattle.keel_core.proofs.Forming.{by_story, formed_goes, formed_staged}
-use Rattle.keel_core.proofs.Stories.{fits_handed, fits_published, standing_more}
+use Rattle.keel_core.specs.Steps.{IsMade, IsNext, IsRefused, IsWanted, change_of, done, done_step, log_behind, log_longer, number_in, size_in, stopped, tried}
+use Rattle.keel_core.specs.Views.{Beyond, CoreView, IsAlike, MakesCall, state_of}
+use Rattle.keel_core.proofs.Calling.{quiet_same}
+use Rattle.keel_core.proofs.Forming.{by_flight, by_story}
+use Rattle.keel_core.proofs.Stories.{part_handed, part_point, part_published}
 
-abbrev pub flying_of : List ℕ → List Batch → Bool → Flying
-flying_of tickets batches sync = record { tickets = tickets; batches = batches; sync = sync }
+-- ---- memory was wanting
 
--- memory was wanting before the call
-pub want_before : (view : CoreView) → MakesCall view step.OutOfMemory view
-want_before view = by_story view view step.OutOfMemory (λ footing story failures held fits stands none. (
-  record { no_rest = none; quiet = quiet_same view.device },
-  record { footing = footing; story = story; failures = failures; state_is = refl; fits = fits; standing = stands },
-))
+pub wants_goes : (old new : CoreView) → IsWanted old new → MakesCall old step.OutOfMemory new
+wants_goes old new wanted =
+    subst (MakesCall old step.OutOfMemory) (sym wanted.view_is) (by_story old (record old { device = new.device }) step.OutOfMemory (λ beyond held fits none. (
+      record { no_rest = none; quiet = wanted.quiet },
+      record { beyond = beyond; state_is = refl; fits = record { story = fits.story; group = fits.group } },
+    )))
 
-module _ (device told : Seen) (trail : TrailShown) (outcomes : List (ℕ × Outcome)) (last_ticket : ℕ) (standing : Option Failure) where
-  abbrev pub view_at : Seen → OwnLog → List Ticketed → Option Flying → ℕ → ℕ → CoreView
-  view_at shows stage waiting group job next_file = record {
-    device = shows;
-    trail = trail;
-    stage = stage;
-    waiting = waiting;
-    group = group;
-    outcomes = outcomes;
-    last_ticket = last_ticket;
-    job = job;
-    standing = standing;
-    next_file = next_file;
+pub same_wanted : (view : CoreView) → IsWanted view view
+same_wanted view = record { quiet = quiet_same view.device; view_is = refl }
+
+-- ---- a group in flight
+
+drop_more : (made : ℕ) (plan : List states.Act) (act : states.Act) (later : List states.Act) → drop made plan ≡ act ∷ later → drop (made + 1) plan ≡ later
+drop_more zero [] act later is = absurd (cc is)
+drop_more zero (first ∷ plan) act later is = cc is
+drop_more (suc made) [] act later is = absurd (cc is)
+drop_more (suc made) (first ∷ plan) act later is =
+    let one_more : suc (made + 1) ≡ suc made + 1 = omega arith in
+    subst (λ n. drop n (first ∷ plan) ≡ later) one_more (drop_more made plan act later is)
+
+abbrev log_shown : Option OwnLog → Option SegmentLog
+log_shown log = states.newest_log (logs_of log false)
+
+number_same : (log : Option OwnLog) → unwrap_or (option_map (λ (l : SegmentLog). l.number) (log_shown log)) 0 ≡ number_in log
+number_same None = refl
+number_same (Some own) = refl
+
+size_same : (log : Option OwnLog) → unwrap_or (option_map (λ (l : SegmentLog). l.size) (log_shown log)) 0 ≡ size_in log
+size_same None = refl
+size_same (Some own) = refl
+
+longer_same : (log : Option OwnLog) (more : ℕ) → machine_after.log_longer more (logs_of log false) ≡ logs_of (log_longer more log) false
+longer_same None more = refl
+longer_same (Some own) more = refl
+
+failed_same : (log : Option OwnLog) → log_failed (logs_of log false) ≡ logs_of log true
+failed_same None = refl
+failed_same (Some own) = refl
+
+none_same : (log : Option OwnLog) → log ≡ None → logs_of log false ≡ logs_of log true
+none_same log is = ap (λ (l : Option OwnLog). logs_of l false) is ∙ sym (ap (λ (l : Option OwnLog). logs_of l true) is)
+
+module _ (view : CoreView) (told : Seen) (group : Group) where
+  abbrev calm : CoreView
+  calm = record view { failed = None }
+
+  abbrev before : CoreView
+  before = record calm { group = Some group }
+
+  abbrev behind : Act → CoreView
+  behind act = record before { device = told; log = log_behind act before }
+
+  abbrev state_before : Beyond → Group → State
+  state_before beyond running = state_of before (record beyond { running = Some running })
+
+  -- the states behind a call, by their parts
+  abbrev state_behind : Beyond → List SegmentLog → Story → List (List Op) → List (ℕ × Outcome) → Option Group → List Failure → ℕ → State
+  state_behind beyond logs story segment outcomes running failures next_file = record {
+    device = told;
+    footing = beyond.footing;
+    mode = record { phase = states.Open; left = beyond.left };
+    story = story;
+    segments = record { immutable = []; active = record { batches = segment; logs = logs } };
+    writing = record { waiting = view.waiting; outcomes = outcomes; last_ticket = view.last_ticket };
+    failing = record { failures = failures; paranoid = beyond.paranoid };
+    jobs = record { write = record { number = view.job; running = running } };
+    numbers = record { next_file = next_file };
   }
 
-  -- with the next group of those that wait in flight, where none was
-  abbrev pub entered_at : Seen → OwnLog → List Ticketed → Option Flying → ℕ → ℕ → CoreView
-  entered_at shows stage waiting group job next_file =
-      view_at shows stage (waiting_entered waiting group) (group_entered waiting group) (job_entered waiting group job) next_file
+  -- of a state that the core stands for, where a call is to be made
+  module _ (beyond : Beyond) (running : Group) (held : Option ℕ) (part : IsPartOf view.trail beyond.story) (alike : IsAlike group running)
+      (none : write_rest (state_before beyond running) held ≡ None) where
+    abbrev s : State
+    s = state_before beyond running
 
-  -- memory was wanting at a call, whichever it is
-  pub want_at : (change : Change) (stage : OwnLog) (waiting : List Ticketed) (group : Option Flying) (job next_file : ℕ)
-      → Calls device change (Err error.OutOfMemory) told
-      → MakesCall (view_at device stage waiting group job next_file) step.OutOfMemory (view_at told stage waiting group job next_file)
-  want_at change stage waiting group job next_file calls = by_story (view_at device stage waiting group job next_file) (view_at told stage waiting group job next_file) step.OutOfMemory (λ footing story failures held fits stands none. (
-    record { no_rest = none; quiet = quiet_want change device told calls },
-    record { footing = footing; story = story; failures = failures; state_is = refl; fits = fits; standing = stands },
+    same_bytes : machine.group_bytes s running ≡ steps.next_bytes before
+    same_bytes = λ i. records_bytes (size_same view.log i) (payloads_behind (sym (part_point view.trail beyond.story part) i).seq (ops_of (alike.batches i)))
+
+    same_change : (act : Act) → machine.change_of s running (act_of act) ≡ change_of act before
+    same_change MakeLog = refl
+    same_change (SyncDirectory log) = refl
+    same_change AddRecords = λ i. change.Append (Log (number_same view.log i)) (same_bytes i)
+    same_change SyncLog = ap (λ n. change.Sync (Log n)) (number_same view.log)
+
+    made_call : (act : Act) (later : List states.Act) (failed : Option Fault) → left_of group ≡ act_of act ∷ later → Calls view.device (change_of act before) (as_answer failed) told
+        → MadeCall s held running (act_of act) later failed told
+    made_call act later failed plan calls = record {
+      makes = record { no_rest = none; group_is = refl; next = alike.left ∙ plan };
+      calls = subst (λ (c : Change). Calls view.device c (as_answer failed) told) (sym (same_change act)) calls;
+    }
+
+    moves : (act : Act) (next : states.Act) (later : List states.Act) → left_of group ≡ act_of act ∷ next ∷ later → Calls view.device (change_of act before) (Ok tt) told
+        → IsMove s held view.job (machine.call_of (act_of act)) told
+    moves act next later plan calls = record {
+      group = running;
+      act = act_of act;
+      next = next;
+      later = later;
+      made = made_call act (next ∷ later) None plan calls;
+      job_is = refl;
+      call_is = refl;
+    }
+
+    -- behind it the calls that follow are left
+    left_behind : (act : states.Act) (later : List states.Act) → left_of group ≡ act ∷ later → drop (running.progress.made + 1) running.plan ≡ drop 1 (left_of group)
+    left_behind act later plan =
+        drop_more running.progress.made running.plan act later (alike.left ∙ plan) ∙ sym (ap (λ (l : List states.Act). drop 1 l) plan)
+
+    -- the state behind a call of the group, by the calls that it has left
+    done_is : (act : states.Act) (later : List states.Act) → left_of group ≡ act ∷ later
+        → states.with_device told (first_done running (left_of running) s) ≡ states.with_device told (act_done act running later s)
+    done_is act later plan = ap (λ (l : List states.Act). states.with_device told (first_done running l s)) (alike.left ∙ plan)
+
+    failed_is : (act : states.Act) (later : List states.Act) (failure : Failure) → left_of group ≡ act ∷ later
+        → states.with_device told (first_failed running (left_of running) failure s) ≡ states.with_device told (act_failed act running failure s)
+    failed_is act later failure plan = ap (λ (l : List states.Act). states.with_device told (first_failed running l failure s)) (alike.left ∙ plan)
+
+  -- ---- a call was answered Ok
+
+  log_made : (sync : Bool) → left_of group ≡ act_of MakeLog ∷ later_than MakeLog sync → Calls view.device (change_of MakeLog before) (Ok tt) told
+      → MakesCall before (done_step MakeLog (behind MakeLog)) (done MakeLog (behind MakeLog))
+  log_made sync plan calls = by_flight calm group (done_step MakeLog (behind MakeLog)) (done MakeLog (behind MakeLog)) (λ beyond running held part alike none. (
+    moves beyond running held part alike none MakeLog states.SyncDirectory _ plan calls,
+    record {
+      beyond = record beyond { running = Some (one_more (machine_after.with_made (Some view.next_file) running)) };
+      state_is = done_is beyond running held part alike none states.MakeLog _ plan;
+      fits = record {
+        story = part;
+        group = record { tickets = alike.tickets; batches = alike.batches; log = refl; left = left_behind beyond running held part alike none states.MakeLog _ plan };
+      };
+    },
   ))
 
-  -- ---- a log is made
+  name_firm : (log : ℕ) (sync : Bool) → left_of group ≡ act_of (SyncDirectory log) ∷ later_than (SyncDirectory log) sync → group.progress.log ≡ Some log
+      → Calls view.device (change_of (SyncDirectory log) before) (Ok tt) told
+      → MakesCall before (done_step (SyncDirectory log) (behind (SyncDirectory log))) (done (SyncDirectory log) (behind (SyncDirectory log)))
+  name_firm log sync plan made calls = by_flight calm group (done_step (SyncDirectory log) (behind (SyncDirectory log))) (done (SyncDirectory log) (behind (SyncDirectory log))) (λ beyond running held part alike none. (
+    moves beyond running held part alike none (SyncDirectory log) states.AddRecords _ plan calls,
+    record {
+      beyond = record beyond { running = Some (one_more (machine_after.with_made None running)) };
+      state_is =
+          done_is beyond running held part alike none states.SyncDirectory _ plan
+          ∙ ap (λ (l : Option ℕ). state_behind beyond (machine_after.logs_made l) beyond.story view.trail.log view.outcomes (Some (one_more (machine_after.with_made None running))) [] view.next_file) (alike.log ∙ made);
+      fits = record {
+        story = part;
+        group = record { tickets = alike.tickets; batches = alike.batches; log = refl; left = left_behind beyond running held part alike none states.SyncDirectory _ plan };
+      };
+    },
+  ))
 
-  module _ (tickets : List ℕ) (batch : Batch) (others : List Batch) (sync : Bool) where
-    abbrev whole : Flying
-    whole = flying_of tickets (batch ∷ others) sync
+  -- the log behind the append
+  longer_is : (beyond : Beyond) (running : Group) (held : Option ℕ) (part : IsPartOf view.trail beyond.story) (alike : IsAlike group running)
+      (none : write_rest (state_before beyond running) held ≡ None)
+      → machine_after.log_longer (length (machine.group_bytes (state_before beyond running) running)) (logs_of view.log false) ≡ logs_of (log_behind AddRecords before) false
+  longer_is beyond running held part alike none =
+      ap (λ (l : List ℕ). machine_after.log_longer (length l) (logs_of view.log false)) (same_bytes beyond running held part alike none) ∙ longer_same view.log _
 
-    made_in : (waiting : List Ticketed) (job next_file : ℕ) → Calls device (Create (Log next_file)) (Ok tt) told
-        → MakesCall (view_at device Absent waiting (Some whole) job next_file) (step.Moved job call.Create) (view_at told (Created next_file) waiting (Some whole) job (next_file + 1))
-    made_in waiting job next_file calls = by_story (view_at device Absent waiting (Some whole) job next_file) (view_at told (Created next_file) waiting (Some whole) job (next_file + 1)) (step.Moved job call.Create) (λ footing story failures held fits stands none. (
-      record {
-        group = shown_group Absent whole;
-        act = MakeLog;
-        next = SyncDirectory;
-        later = AddRecords ∷ sync_act sync;
-        made = record { makes = record { no_rest = none; group_is = refl; next = refl }; calls = calls };
-        job_is = refl;
-        call_is = refl;
-      },
-      record { footing = footing; story = story; failures = failures; state_is = refl; fits = fits; standing = stands },
-    ))
+  records_added : left_of group ≡ act_of AddRecords ∷ later_than AddRecords true → group.progress.log ≡ None → Calls view.device (change_of AddRecords before) (Ok tt) told
+      → MakesCall before (steps.added_step true (steps.handed_over (behind AddRecords))) (steps.added true (steps.handed_over (behind AddRecords)))
+  records_added plan made calls = by_flight calm group (steps.added_step true (steps.handed_over (behind AddRecords))) (steps.added true (steps.handed_over (behind AddRecords))) (λ beyond running held part alike none. (
+    moves beyond running held part alike none AddRecords states.SyncLog [] plan calls,
+    record {
+      beyond = record beyond { story = handed (ops_of group.batches) beyond.story; running = Some (one_more (record running { batches = [] })) };
+      state_is =
+          done_is beyond running held part alike none states.AddRecords _ plan
+          ∙ (λ i. state_behind beyond (longer_is beyond running held part alike none i) (handed (ops_of (alike.batches i)) beyond.story) view.trail.log view.outcomes
+          (Some (one_more (record running { batches = [] }))) [] view.next_file);
+      fits = record {
+        story = part_handed view.trail beyond.story (ops_of group.batches) part;
+        group = record { tickets = alike.tickets; batches = refl; log = alike.log ∙ made; left = left_behind beyond running held part alike none states.AddRecords _ plan };
+      };
+    },
+  ))
 
-    failed_in : (waiting : List Ticketed) (job next_file : ℕ) (fault : Fault) → Calls device (Create (Log next_file)) (Err (error.Fault fault)) told
-        → MakesCall (view_at device Absent waiting (Some whole) job next_file) (step.Failed (failure_of fault))
-        (stopped (failure_of fault) (view_at told Absent waiting (Some whole) job (next_file + 1)))
-    failed_in waiting job next_file fault calls = by_story (view_at device Absent waiting (Some whole) job next_file) (stopped (failure_of fault) (view_at told Absent waiting (Some whole) job (next_file + 1))) (step.Failed (failure_of fault)) (λ footing story failures held fits stands none. (
-      record {
-        group = shown_group Absent whole;
-        act = MakeLog;
-        later = SyncDirectory ∷ AddRecords ∷ sync_act sync;
-        fault = fault;
-        made = record { makes = record { no_rest = none; group_is = refl; next = refl }; calls = calls };
-        failure_is = refl;
-      },
-      record { footing = footing; story = story; failures = failures ++ failure_of fault ∷ []; state_is = refl; fits = fits; standing = standing_more failures standing (failure_of fault) stands },
-    ))
-
-    synced_in : (waiting : List Ticketed) (number job next_file : ℕ) → Calls device SyncDir (Ok tt) told
-        → MakesCall (view_at device (Created number) waiting (Some whole) job next_file) (step.Moved job call.SyncDir) (view_at told (Ready number 0) waiting (Some whole) job next_file)
-    synced_in waiting number job next_file calls = by_story (view_at device (Created number) waiting (Some whole) job next_file) (view_at told (Ready number 0) waiting (Some whole) job next_file) (step.Moved job call.SyncDir) (λ footing story failures held fits stands none. (
-      record {
-        group = shown_group (Created number) whole;
-        act = SyncDirectory;
-        next = AddRecords;
-        later = sync_act sync;
-        made = record { makes = record { no_rest = none; group_is = refl; next = refl }; calls = calls };
-        job_is = refl;
-        call_is = refl;
-      },
-      record { footing = footing; story = story; failures = failures; state_is = refl; fits = fits; standing = stands },
-    ))
-
-    unsynced_in : (waiting : List Ticketed) (number job next_file : ℕ) (fault : Fault) → Calls device SyncDir (Err (error.Fault fault)) told
-        → MakesCall (view_at device (Created number) waiting (Some whole) job next_file) (step.Failed (failure_of fault))
-        (stopped (failure_of fault) (view_at told (Created number) waiting (Some whole) job next_file))
-    unsynced_in waiting number job next_file fault calls = by_story (view_at device (Created number) waiting (Some whole) job next_file) (stopped (failure_of fault) (view_at told (Created number) waiting (Some whole) job next_file)) (step.Failed (failure_of fault)) (λ footing story failures held fits stands none. (
-      record {
-        group = shown_group (Created number) whole;
-        act = SyncDirectory;
-        later = AddRecords ∷ sync_act sync;
-        fault = fault;
-        made = record { makes = record { no_rest = none; group_is = refl; next = refl }; calls = calls };
-        failure_is = refl;
-      },
-      record { footing = footing; story = story; failures = failures ++ failure_of fault ∷ []; state_is = refl; fits = fits; standing = standing_more failures standing (failure_of fault) stands },
-    ))
-
-  made_flying : (waiting : List Ticketed) (tickets : List ℕ) (batches : List Batch) (sync : Bool) (job next_file : ℕ)
-      → IsStaged (Some (flying_of tickets batches sync)) Absent → Calls device (Create (Log next_file)) (Ok tt) told
-      → MakesCall (view_at device Absent waiting (Some (flying_of tickets batches sync)) job next_file) (step.Moved job call.Create)
-      (view_at told (Created next_file) waiting (Some (flying_of tickets batches sync)) job (next_file + 1))
-  made_flying waiting tickets [] sync job next_file staged calls = absurd staged
-  made_flying waiting tickets (batch ∷ others) sync job next_file staged calls = made_in tickets batch others sync waiting job next_file calls
-
-  failed_flying : (waiting : List Ticketed) (tickets : List ℕ) (batches : List Batch) (sync : Bool) (job next_file : ℕ) (fault : Fault)
-      → IsStaged (Some (flying_of tickets batches sync)) Absent → Calls device (Create (Log next_file)) (Err (error.Fault fault)) told
-      → MakesCall (view_at device Absent waiting (Some (flying_of tickets batches sync)) job next_file) (step.Failed (failure_of fault))
-      (stopped (failure_of fault) (view_at told Absent waiting (Some (flying_of tickets batches sync)) job (next_file + 1)))
-  failed_flying waiting tickets [] sync job next_file fault staged calls = absurd staged
-  failed_flying waiting tickets (batch ∷ others) sync job next_file fault staged calls = failed_in tickets batch others sync waiting job next_file fault calls
-
-  synced_flying : (waiting : List Ticketed) (tickets : List ℕ) (batches : List Batch) (sync : Bool) (number job next_file : ℕ)
-      → IsStaged (Some (flying_of tickets batches sync)) (Created number) → Calls device SyncDir (Ok tt) told
-      → MakesCall (view_at device (Created number) waiting (Some (flying_of tickets batches sync)) job next_file) (step.Moved job call.SyncDir)
-      (view_at told (Ready number 0) waiting (Some (flying_of tickets batches sync)) job next_file)
-  synced_flying waiting tickets [] sync number job next_file staged calls = absurd staged
-  synced_flying waiting tickets (batch ∷ others) sync number job next_file staged calls = synced_in tickets batch others sync waiting number job next_file calls
-
-  unsynced_flying : (waiting : List Ticketed) (tickets : List ℕ) (batches : List Batch) (sync : Bool) (number job next_file : ℕ) (fault : Fault)
-      → IsStaged (Some (flying_of tickets batches sync)) (Created number) → Calls device SyncDir (Err (error.Fault fault)) told
-      → MakesCall (view_at device (Created number) waiting (Some (flying_of tickets batches sync)) job next_file) (step.Failed (failure_of fault))
-      (stopped (failure_of fault) (view_at told (Created number) waiting (Some (flying_of tickets batches sync)) job next_file))
-  unsynced_flying waiting tickets [] sync number job next_file fault staged calls = absurd staged
-  unsynced_flying waiting tickets (batch ∷ others) sync number job next_file fault staged calls = unsynced_in tickets batch others sync waiting number job next_file fault calls
-
-  log_made : (waiting : List Ticketed) (group : Option Flying) (job next_file : ℕ)
-      → IsStaged group Absent → (group ≡ None → waiting ≢ []) → next_file < 2 ^ 56 → Calls device (Create (Log next_file)) (Ok tt) told
-      → MakesCall (view_at device Absent waiting group job next_file) (step.Moved (job_entered waiting group job) call.Create)
-      (entered_at told (Created next_file) waiting group job (next_file + 1))
-  log_made waiting (Some group) job next_file staged some below calls = made_flying waiting group.tickets group.batches group.sync job next_file staged calls
-  log_made [] None job next_file staged some below calls = absurd (some refl refl)
-  log_made (first ∷ rest) None job next_file staged some below calls =
-      let queue : List Ticketed = first ∷ rest in
-      let group : Flying = next_group queue in
-      formed_goes (view_at device Absent queue None job next_file) first rest (step.Moved (job + 1) call.Create) _ staged (λ is. below) tt
-      (made_flying (drop (next_size queue) queue) group.tickets group.batches group.sync (job + 1) next_file (formed_staged first rest Absent) calls)
-
-  log_failed : (waiting : List Ticketed) (group : Option Flying) (job next_file : ℕ) (fault : Fault)
-      → IsStaged group Absent → (group ≡ None → waiting ≢ []) → next_file < 2 ^ 56 → Calls device (Create (Log next_file)) (Err (error.Fault fault)) told
-      → MakesCall (view_at device Absent waiting group job next_file) (step.Failed (failure_of fault))
-      (stopped (failure_of fault) (entered_at told Absent waiting group job (next_file + 1)))
-  log_failed waiting (Some group) job next_file fault staged some below calls = failed_flying waiting group.tickets group.batches group.sync job next_file fault staged calls
-  log_failed [] None job next_file fault staged some below calls = absurd (some refl refl)
-  log_failed (first ∷ rest) None job next_file fault staged some below calls =
-      let queue : List Ticketed = first ∷ rest in
-      let group : Flying = next_group queue in
-      formed_goes (view_at device Absent queue None job next_file) first rest (step.Failed (failure_of fault)) _ staged (λ is. below) tt
-      (failed_flying (drop (next_size queue) queue) group.tickets group.batches group.sync (job + 1) next_file fault (formed_staged first rest Absent) calls)
-
-  -- ---- the same where a stage is known by an equation
-
-  pub log_made_at : (stage : OwnLog) (waiting : List Ticketed) (group : Option Flying) (job next_file : ℕ) → stage ≡ Absent
-      → IsStaged group stage → (group ≡ None → waiting ≢ []) → next_file < 2 ^ 56 → Calls device (Create (Log next_file)) (Ok tt) told
-      → MakesCall (view_at device stage waiting group job next_file) (step.Moved (job_entered waiting group job) call.Create)
-      (entered_at told (Created next_file) waiting group job (next_file + 1))
-  log_made_at stage waiting group job next_file is =
-      subst (λ (l : OwnLog). IsStaged group l → (group ≡ None → waiting ≢ []) → next_file < 2 ^ 56 → Calls device (Create (Log next_file)) (Ok tt) told
-      → MakesCall (view_at device l waiting group job next_file) (step.Moved (job_entered waiting group job) call.Create)
-      (entered_at told (Created next_file) waiting group job (next_file + 1)))
-      (sym is) (log_made waiting group job next_file)
-
-  pub log_failed_at : (stage : OwnLog) (waiting : List Ticketed) (group : Option Flying) (job next_file : ℕ) (fault : Fault) → stage ≡ Absent
-      → IsStaged group stage → (group ≡ None → waiting ≢ []) → next_file < 2 ^ 56 → Calls device (Create (Log next_file)) (Err (error.Fault fault)) told
-      → MakesCall (view_at device stage waiting group job next_file) (step.Failed (failure_of fault))
-      (stopped (failure_of fault) (entered_at told stage waiting group job (next_file + 1)))
-  log_failed_at stage waiting group job next_file fault is =
-      subst (λ (l : OwnLog). IsStaged group l → (group ≡ None → waiting ≢ []) → next_file < 2 ^ 56 → Calls device (Create (Log next_file)) (Err (error.Fault fault)) told
-      → MakesCall (view_at device l waiting group job next_file) (step.Failed (failure_of fault))
-      (stopped (failure_of fault) (entered_at told l waiting group job (next_file + 1))))
-      (sym is) (log_failed waiting group job next_file fault)
-
-  name_synced : (waiting : List Ticketed) (group : Option Flying) (number job next_file : ℕ) → IsStaged group (Created number) → Calls device SyncDir (Ok tt) told
-      → MakesCall (view_at device (Created number) waiting group job next_file) (step.Moved job call.SyncDir) (view_at told (Ready number 0) waiting group job next_file)
-  name_synced waiting (Some group) number job next_file staged calls = synced_flying waiting group.tickets group.batches group.sync number job next_file staged calls
-  name_synced waiting None number job next_file staged calls = absurd staged
-
-  name_failed : (waiting : List Ticketed) (group : Option Flying) (number job next_file : ℕ) (fault : Fault)
-      → IsStaged group (Created number) → Calls device SyncDir (Err (error.Fault fault)) told
-      → MakesCall (view_at device (Created number) waiting group job next_file) (step.Failed (failure_of fault))
-      (stopped (failure_of fault) (view_at told (Created number) waiting group job next_file))
-  name_failed waiting (Some group) number job next_file fault staged calls = unsynced_flying waiting group.tickets group.batches group.sync number job next_file fault staged calls
-  name_failed waiting None number job next_file fault staged calls = absurd staged
-
-  pub name_synced_at : (stage : OwnLog) (waiting : List Ticketed) (group : Option Flying) (number job next_file : ℕ) → stage ≡ Created number
-      → IsStaged group stage → Calls device SyncDir (Ok tt) told
-      → MakesCall (view_at device stage waiting group job next_file) (step.Moved job call.SyncDir)
-      (view_at told (Ready number 0) waiting group job next_file)
-  name_synced_at stage waiting group number job next_file is =
-      subst (λ (l : OwnLog). IsStaged group l → Calls device SyncDir (Ok tt) told
-      → MakesCall (view_at device l waiting group job next_file) (step.Moved job call.SyncDir) (view_at told (Ready number 0) waiting group job next_file))
-      (sym is) (name_synced waiting group number job next_file)
-
-  pub name_failed_at : (stage : OwnLog) (waiting : List Ticketed) (group : Option Flying) (number job next_file : ℕ) (fault : Fault) → stage ≡ Created number
-      → IsStaged group stage → Calls device SyncDir (Err (error.Fault fault)) told
-      → MakesCall (view_at device stage waiting group job next_file) (step.Failed (failure_of fault))
-      (stopped (failure_of fault) (view_at told stage waiting group job next_file))
-  name_failed_at stage waiting group number job next_file fault is =
-      subst (λ (l : OwnLog). IsStaged group l → Calls device SyncDir (Err (error.Fault fault)) told
-      → MakesCall (view_at device l waiting group job next_file) (step.Failed (failure_of fault))
-      (stopped (failure_of fault) (view_at told l waiting group job next_file)))
-      (sym is) (name_failed waiting group number job next_file fault)
-
-  -- ---- the log is synced
-
-  -- the states behind the sync, by the sequence before it and what was in limbo
-  abbrev state_firm : List Ticketed → List ℕ → ℕ → ℕ → ℕ → ℕ → Footing → Story → List Failure → ℕ → List (List Op) → State
-  state_firm waiting tickets number size job next_file footing story failures seq limbo =
-      state_of (record (view_at told (Ready number size) waiting None job next_file) { trail = published true trail; outcomes = outcomes ++ done_each seq tickets limbo })
-      footing (story_published true story) failures
-
-  firm_in : (waiting : List Ticketed) (tickets : List ℕ) (sync : Bool) (number size job next_file : ℕ) → Calls device (Sync (Log number)) (Ok tt) told
-      → MakesCall (view_at device (Ready number size) waiting (Some (flying_of tickets [] sync)) job next_file)
-      (step.Done job (point_at (published true trail)).seq (length tickets))
-      (all_published true (view_at told (Ready number size) waiting (Some (flying_of tickets [] sync)) job next_file))
-  firm_in waiting tickets sync number size job next_file calls = by_story (view_at device (Ready number size) waiting (Some (flying_of tickets [] sync)) job next_file) (all_published true (view_at told (Ready number size) waiting (Some (flying_of tickets [] sync)) job next_file)) (step.Done job (point_at (published true trail)).seq (length tickets)) (λ footing story failures held fits stands none.
-      let later = fits_published trail story true fits in
-      let seq = ap (λ (p : Point). p.seq) later.point_is in (
+  records_published : left_of group ≡ act_of AddRecords ∷ later_than AddRecords false → Calls view.device (change_of AddRecords before) (Ok tt) told
+      → MakesCall before (steps.added_step false (steps.handed_over (behind AddRecords))) (steps.added false (steps.handed_over (behind AddRecords)))
+  records_published plan calls = by_flight calm group (steps.added_step false (steps.handed_over (behind AddRecords))) (steps.added false (steps.handed_over (behind AddRecords))) (λ beyond running held part alike none.
+      let given : IsPartOf (handed (ops_of group.batches) view.trail) (handed (ops_of group.batches) beyond.story) = part_handed view.trail beyond.story (ops_of group.batches) part in
+      let later = part_published (handed (ops_of group.batches) view.trail) (handed (ops_of group.batches) beyond.story) false given in
+      let seq_same = part_point view.trail beyond.story part in
+      let limbo : beyond.story.limbo ++ ops_of running.batches ≡ view.trail.limbo ++ ops_of group.batches = λ i. part.limbo_is i ++ ops_of (alike.batches i) in
+      let state : states.with_device told (first_done running (left_of running) (state_before beyond running))
+      ≡ state_of (steps.added false (steps.handed_over (behind AddRecords))) (record beyond { story = published false (handed (ops_of group.batches) beyond.story); running = None }) =
+      done_is beyond running held part alike none states.AddRecords _ plan
+      ∙ (λ i. state_behind beyond (longer_is beyond running held part alike none i) (published false (handed (ops_of (alike.batches i)) beyond.story)) (view.trail.log ++ limbo i)
+      (view.outcomes ++ done_each (sym seq_same i).seq (alike.tickets i) (limbo i)) None [] view.next_file) in (
         record {
-          group = shown_group (Ready number size) (flying_of tickets [] sync);
-          act = SyncLog;
-          made = record { makes = record { no_rest = none; group_is = refl; next = refl }; calls = calls };
+          group = running;
+          act = states.AddRecords;
+          made = made_call beyond running held part alike none AddRecords [] None plan calls;
           job_is = refl;
-          seq_is = seq;
-          batches_is = refl;
+          seq_is = ap (λ (p : Point). p.seq) (part_point _ _ later) ∙ sym (ap last_seq state);
+          batches_is = ap (λ (l : List ℕ). length l) (sym alike.tickets);
         },
         record {
-          footing = footing;
-          story = story_published true story;
-          failures = failures;
-          state_is = λ i. state_firm waiting tickets number size job next_file footing story failures (sym fits.point_is i).seq (fits.limbo_is i);
-          fits = later;
-          standing = stands;
+          beyond = record beyond { story = published false (handed (ops_of group.batches) beyond.story); running = None };
+          state_is = state;
+          fits = record { story = later; group = tt };
         },
       ))
 
-  unfirm_in : (waiting : List Ticketed) (tickets : List ℕ) (sync : Bool) (number size job next_file : ℕ) (fault : Fault)
-      → Calls device (Sync (Log number)) (Err (error.Fault fault)) told
-      → MakesCall (view_at device (Ready number size) waiting (Some (flying_of tickets [] sync)) job next_file) (step.Failed (failure_of fault))
-      (stopped (failure_of fault) (view_at told (Ready number size) waiting (Some (flying_of tickets [] sync)) job next_file))
-  unfirm_in waiting tickets sync number size job next_file fault calls = by_story (view_at device (Ready number size) waiting (Some (flying_of tickets [] sync)) job next_file) (stopped (failure_of fault) (view_at told (Ready number size) waiting (Some (flying_of tickets [] sync)) job next_file)) (step.Failed (failure_of fault)) (λ footing story failures held fits stands none. (
+  log_firm : (sync : Bool) → left_of group ≡ act_of SyncLog ∷ later_than SyncLog sync → Calls view.device (change_of SyncLog before) (Ok tt) told
+      → MakesCall before (done_step SyncLog (behind SyncLog)) (done SyncLog (behind SyncLog))
+  log_firm sync plan calls = by_flight calm group (done_step SyncLog (behind SyncLog)) (done SyncLog (behind SyncLog)) (λ beyond running held part alike none.
+      let later = part_published view.trail beyond.story true part in
+      let seq_same = part_point view.trail beyond.story part in
+      let state : states.with_device told (first_done running (left_of running) (state_before beyond running))
+      ≡ state_of (done SyncLog (behind SyncLog)) (record beyond { story = published true beyond.story; running = None }) =
+      done_is beyond running held part alike none states.SyncLog _ plan
+      ∙ (λ i. state_behind beyond (logs_of view.log false) (published true beyond.story) (view.trail.log ++ part.limbo_is i)
+      (view.outcomes ++ done_each (sym seq_same i).seq (alike.tickets i) (part.limbo_is i)) None [] view.next_file) in (
+        record {
+          group = running;
+          act = states.SyncLog;
+          made = made_call beyond running held part alike none SyncLog [] None plan calls;
+          job_is = refl;
+          seq_is = ap (λ (p : Point). p.seq) (part_point _ _ later) ∙ sym (ap last_seq state);
+          batches_is = ap (λ (l : List ℕ). length l) (sym alike.tickets);
+        },
+        record {
+          beyond = record beyond { story = published true beyond.story; running = None };
+          state_is = state;
+          fits = record { story = later; group = tt };
+        },
+      ))
+
+  more_is : (sync : Bool) → left_of group ≡ act_of AddRecords ∷ later_than AddRecords sync → sync ≡ has_more (left_of group)
+  more_is true plan = sym (ap has_more plan)
+  more_is false plan = sym (ap has_more plan)
+
+  added_is : (sync : Bool) → left_of group ≡ act_of AddRecords ∷ later_than AddRecords sync → group.progress.log ≡ None → Calls view.device (change_of AddRecords before) (Ok tt) told
+      → MakesCall before (steps.added_step sync (steps.handed_over (behind AddRecords))) (steps.added sync (steps.handed_over (behind AddRecords)))
+  added_is true plan made calls = records_added plan made calls
+  added_is false plan made calls = records_published plan calls
+
+  went : (act : Act) (sync : Bool) → left_of group ≡ act_of act ∷ later_than act sync → group.progress.log ≡ made_log act → Calls view.device (change_of act before) (Ok tt) told
+      → MakesCall before (done_step act (behind act)) (done act (behind act))
+  went MakeLog sync plan made calls = log_made sync plan calls
+  went (SyncDirectory log) sync plan made calls = name_firm log sync plan made calls
+  went AddRecords sync plan made calls =
+      subst (λ (more : Bool). MakesCall before (steps.added_step more (steps.handed_over (behind AddRecords))) (steps.added more (steps.handed_over (behind AddRecords))))
+      (more_is sync plan) (added_is sync plan made calls)
+  went SyncLog sync plan made calls = log_firm sync plan calls
+
+  -- ---- a call failed
+
+  abbrev over : Act → Fault → CoreView
+  over act fault = stopped fault (tried act (record before { device = told }))
+
+  abbrev over_at : Act → Fault → CoreView
+  over_at act fault = record (over act fault) { device = told }
+
+  fails : (act : Act) (later : List states.Act) (fault : Fault) (story : Story → Story) → left_of group ≡ act_of act ∷ later
+      → ((beyond : Beyond) → IsPartOf view.trail beyond.story → IsPartOf (over_at act fault).trail (story beyond.story))
+      → ((beyond : Beyond) (running : Group) → IsAlike group running
+      → states.with_device told (act_failed (act_of act) running (failure_of fault) (state_before beyond running))
+      ≡ state_of (over_at act fault) (record beyond { story = story beyond.story; running = None }))
+      → Calls view.device (change_of act before) (Err (error.Fault fault)) told → MakesCall before (step.Failed (failure_of fault)) (over_at act fault)
+  fails act later fault story plan goes same calls = by_flight calm group (step.Failed (failure_of fault)) (over_at act fault) (λ beyond running held part alike none. (
     record {
-      group = shown_group (Ready number size) (flying_of tickets [] sync);
-      act = SyncLog;
-      later = [];
+      group = running;
+      act = act_of act;
+      later = later;
       fault = fault;
-      made = record { makes = record { no_rest = none; group_is = refl; next = refl }; calls = calls };
+      made = made_call beyond running held part alike none act later (Some fault) plan calls;
       failure_is = refl;
     },
-    record { footing = footing; story = story; failures = failures ++ failure_of fault ∷ []; state_is = refl; fits = fits; standing = standing_more failures standing (failure_of fault) stands },
+    record {
+      beyond = record beyond { story = story beyond.story; running = None };
+      state_is = failed_is beyond running held part alike none (act_of act) later (failure_of fault) plan ∙ same beyond running alike;
+      fits = record { story = goes beyond part; group = tt };
+    },
   ))
 
-  firm_flying : (waiting : List Ticketed) (tickets : List ℕ) (batches : List Batch) (sync : Bool) (number size job next_file : ℕ) → batches ≡ []
-      → Calls device (Sync (Log number)) (Ok tt) told
-      → MakesCall (view_at device (Ready number size) waiting (Some (flying_of tickets batches sync)) job next_file)
-      (step.Done job (point_at (published true trail)).seq (length tickets))
-      (all_published true (view_at told (Ready number size) waiting (Some (flying_of tickets batches sync)) job next_file))
-  firm_flying waiting tickets [] sync number size job next_file none calls = firm_in waiting tickets sync number size job next_file calls
-  firm_flying waiting tickets (batch ∷ others) sync number size job next_file none calls = absurd cc
+  refused : (act : Act) (later : List states.Act) (fault : Fault) → left_of group ≡ act_of act ∷ later → HasLog act view.log → Calls view.device (change_of act before) (Err (error.Fault fault)) told
+      → MakesCall before (step.Failed (failure_of fault)) (over act fault)
+  refused MakeLog later fault plan has = fails MakeLog later fault (λ story. story) plan (λ beyond part. part) (λ beyond running alike.
+      λ i. state_behind beyond (none_same view.log has i) beyond.story view.trail.log (view.outcomes ++ given (outcome.Failed (failure_of fault)) (alike.tickets i)) None
+      (failure_of fault ∷ []) (view.next_file + 1))
+  refused (SyncDirectory log) later fault plan has = fails (SyncDirectory log) later fault (λ story. story) plan (λ beyond part. part) (λ beyond running alike.
+      λ i. state_behind beyond (none_same view.log has i) beyond.story view.trail.log (view.outcomes ++ given (outcome.Failed (failure_of fault)) (alike.tickets i)) None
+      (failure_of fault ∷ []) view.next_file)
+  refused AddRecords later fault plan has = fails AddRecords later fault (handed (ops_of group.batches)) plan (λ beyond part. part_handed view.trail beyond.story (ops_of group.batches) part) (λ beyond running alike.
+      λ i. state_behind beyond (failed_same view.log i) (handed (ops_of (alike.batches i)) beyond.story) view.trail.log
+      (view.outcomes ++ given (outcome.Failed (failure_of fault)) (alike.tickets i)) None (failure_of fault ∷ []) view.next_file)
+  refused SyncLog later fault plan has = fails SyncLog later fault (λ story. story) plan (λ beyond part. part) (λ beyond running alike.
+      λ i. state_behind beyond (failed_same view.log i) beyond.story view.trail.log (view.outcomes ++ given (outcome.Failed (failure_of fault)) (alike.tickets i)) None
+      (failure_of fault ∷ []) view.next_file)
 
-  unfirm_flying : (waiting : List Ticketed) (tickets : List ℕ) (batches : List Batch) (sync : Bool) (number size job next_file : ℕ) (fault : Fault) → batches ≡ []
-      → Calls device (Sync (Log number)) (Err (error.Fault fault)) told
-      → MakesCall (view_at device (Ready number size) waiting (Some (flying_of tickets batches sync)) job next_file) (step.Failed (failure_of fault))
-      (stopped (failure_of fault) (view_at told (Ready number size) waiting (Some (flying_of tickets batches sync)) job next_file))
-  unfirm_flying waiting tickets [] sync number size job next_file fault none calls = unfirm_in waiting tickets sync number size job next_file fault calls
-  unfirm_flying waiting tickets (batch ∷ others) sync number size job next_file fault none calls = absurd cc
+-- ---- the same of what the code knows
 
-  pub log_synced_at : (number : ℕ) (stage : OwnLog) (waiting : List Ticketed) (group : Option Flying) (job next_file : ℕ) → NumberIs number stage → IsGone group
-      → Calls device (Sync (Log number)) (Ok tt) told
-      → MakesCall (view_at device stage waiting group job next_file) (step.Done job (point_at (published true trail)).seq (length (tickets_in group)))
-      (all_published true (view_at told stage waiting group job next_file))
-  log_synced_at number Absent waiting group job next_file is gone calls = absurd is
-  log_synced_at number (Created own) waiting group job next_file is gone calls = absurd is
-  log_synced_at number (Ready own size) waiting None job next_file is gone calls = absurd gone
-  log_synced_at number (Ready own size) waiting (Some group) job next_file is gone calls =
-      firm_flying waiting group.tickets group.batches group.sync own size job next_file gone (subst (λ (n : ℕ). Calls device (Sync (Log n)) (Ok tt) told) (sym is) calls)
+-- in a view that is known so, of the group that it has and of no failure
+known : (old : CoreView) (group : Group) (P : CoreView → Type 0) → old.group ≡ Some group → old.failed ≡ None → P (record old { group = Some group; failed = None }) → P old
+known old group P is calm h = subst (λ (f : Option Fault). P (record old { failed = f })) (sym calm) (subst (λ (g : Option Group). P (record old { group = g; failed = None })) (sym is) h)
 
-  pub sync_failed_at : (number : ℕ) (stage : OwnLog) (waiting : List Ticketed) (group : Option Flying) (job next_file : ℕ) (fault : Fault) → NumberIs number stage → IsGone group
-      → Calls device (Sync (Log number)) (Err (error.Fault fault)) told
-      → MakesCall (view_at device stage waiting group job next_file) (step.Failed (failure_of fault)) (stopped (failure_of fault) (view_at told stage waiting group job next_file))
-  sync_failed_at number Absent waiting group job next_file fault is gone calls = absurd is
-  sync_failed_at number (Created own) waiting group job next_file fault is gone calls = absurd is
-  sync_failed_at number (Ready own size) waiting None job next_file fault is gone calls = absurd gone
-  sync_failed_at number (Ready own size) waiting (Some group) job next_file fault is gone calls =
-      unfirm_flying waiting group.tickets group.batches group.sync own size job next_file fault gone (subst (λ (n : ℕ). Calls device (Sync (Log n)) (Err (error.Fault fault)) told) (sym is) calls)
+-- behind a call that was answered Ok
+pub done_goes : (old now : CoreView) (act : Act) → IsNext act old.group → old.failed ≡ None → IsMade act old now → MakesCall old (done_step act now) (done act now)
+done_goes old now act next calm made =
+    subst (λ (v : CoreView). MakesCall old (done_step act v) (done act v)) (sym made.view_is)
+    (known old next.flight
+    (λ (v : CoreView). Calls v.device (change_of act v) (Ok tt) now.device
+    → MakesCall v (done_step act (record v { device = now.device; log = log_behind act v })) (done act (record v { device = now.device; log = log_behind act v })))
+    next.group_is calm (went old now.device next.flight act next.sync next.left_is next.log_is) made.calls)
 
-  -- ---- records are appended
-
-  module _ (bytes : List ℕ) (number size : ℕ) (batch : Batch) (others : List Batch)
-      (is : bytes ≡ records_bytes size (payloads_from ((point_at trail).seq + 1) (batch ∷ others))) where
-    abbrev all : List Batch
-    all = batch ∷ others
-
-    -- what the machine appends is this
-    appended : (story : Story) → Fits (point_at trail) trail story → records_bytes size (payloads_from ((point_of story).seq + 1) all) ≡ bytes
-    appended story fits = ap (λ (p : Point). records_bytes size (payloads_from (p.seq + 1) all)) (sym fits.point_is) ∙ sym is
-
-    abbrev view_handed : List Ticketed → Option Flying → ℕ → ℕ → CoreView
-    view_handed waiting group job next_file = record (view_at told (Ready number (size + length bytes)) waiting group job next_file) { trail = handed all trail }
-
-    -- The states behind the append, by the bytes that the machine appends.
-    abbrev state_handed : List Ticketed → List ℕ → ℕ → ℕ → Footing → Story → List Failure → List ℕ → State
-    state_handed waiting tickets job next_file footing story failures appends =
-        state_of (record (view_at told (Ready number (size + length appends)) waiting (Some (flying_of tickets [] true)) job next_file) { trail = handed all trail })
-        footing (handed_over (ops_of all) story) failures
-
-    abbrev state_done : List Ticketed → List ℕ → ℕ → ℕ → Footing → Story → List Failure → List ℕ → ℕ → List (List Op) → State
-    state_done waiting tickets job next_file footing story failures appends seq limbo =
-        state_of (record (view_at told (Ready number (size + length appends)) waiting None job next_file) {
-          trail = published false (handed all trail);
-          outcomes = outcomes ++ done_each seq tickets limbo;
-        })
-        footing (story_published false (handed_over (ops_of all) story)) failures
-
-    added_in : (waiting : List Ticketed) (tickets : List ℕ) (job next_file : ℕ) → Calls device (Append (Log number) bytes) (Ok tt) told
-        → MakesCall (view_at device (Ready number size) waiting (Some (flying_of tickets all true)) job next_file) (step.Moved job call.Append)
-        (view_handed waiting (Some (flying_of tickets [] true)) job next_file)
-    added_in waiting tickets job next_file calls =
-        by_story (view_at device (Ready number size) waiting (Some (flying_of tickets all true)) job next_file) (view_handed waiting (Some (flying_of tickets [] true)) job next_file) (step.Moved job call.Append)
-        (λ footing story failures held fits stands none.
-        let same = appended story fits in (
-          record {
-            group = shown_group (Ready number size) (flying_of tickets all true);
-            act = AddRecords;
-            next = SyncLog;
-            later = [];
-            made = record {
-              makes = record { no_rest = none; group_is = refl; next = refl };
-              calls = subst (λ (l : List ℕ). Calls device (Append (Log number) l) (Ok tt) told) (sym same) calls;
-            };
-            job_is = refl;
-            call_is = refl;
-          },
-          record {
-            footing = footing;
-            story = handed_over (ops_of all) story;
-            failures = failures;
-            state_is = ap (state_handed waiting tickets job next_file footing story failures) same;
-            fits = fits_handed (point_at trail) trail story all fits;
-            standing = stands;
-          },
-        ))
-
-    done_in : (waiting : List Ticketed) (tickets : List ℕ) (job next_file : ℕ) → Calls device (Append (Log number) bytes) (Ok tt) told
-        → MakesCall (view_at device (Ready number size) waiting (Some (flying_of tickets all false)) job next_file)
-        (step.Done job (point_at (published false (handed all trail))).seq (length tickets))
-        (all_published false (view_handed waiting (Some (flying_of tickets [] false)) job next_file))
-    done_in waiting tickets job next_file calls =
-        by_story (view_at device (Ready number size) waiting (Some (flying_of tickets all false)) job next_file)
-        (all_published false (view_handed waiting (Some (flying_of tickets [] false)) job next_file)) (step.Done job (point_at (published false (handed all trail))).seq (length tickets))
-        (λ footing story failures held fits stands none.
-        let same = appended story fits in
-        let given = fits_handed (point_at trail) trail story all fits in
-        let later = fits_published (handed all trail) (handed_over (ops_of all) story) false given in
-        let seq = ap (λ (p : Point). p.seq) later.point_is in (
-          record {
-            group = shown_group (Ready number size) (flying_of tickets all false);
-            act = AddRecords;
-            made = record {
-              makes = record { no_rest = none; group_is = refl; next = refl };
-              calls = subst (λ (l : List ℕ). Calls device (Append (Log number) l) (Ok tt) told) (sym same) calls;
-            };
-            job_is = refl;
-            seq_is = seq;
-            batches_is = refl;
-          },
-          record {
-            footing = footing;
-            story = story_published false (handed_over (ops_of all) story);
-            failures = failures;
-            state_is = λ i. state_done waiting tickets job next_file footing story failures (same i) (sym fits.point_is i).seq (given.limbo_is i);
-            fits = later;
-            standing = stands;
-          },
-        ))
-
-    unadded_in : (waiting : List Ticketed) (tickets : List ℕ) (sync : Bool) (job next_file : ℕ) (fault : Fault)
-        → Calls device (Append (Log number) bytes) (Err (error.Fault fault)) told
-        → MakesCall (view_at device (Ready number size) waiting (Some (flying_of tickets all sync)) job next_file) (step.Failed (failure_of fault))
-        (stopped (failure_of fault) (record (view_at told (Ready number size) waiting (Some (flying_of tickets [] sync)) job next_file) { trail = handed all trail }))
-    unadded_in waiting tickets sync job next_file fault calls =
-        by_story (view_at device (Ready number size) waiting (Some (flying_of tickets all sync)) job next_file)
-        (stopped (failure_of fault) (record (view_at told (Ready number size) waiting (Some (flying_of tickets [] sync)) job next_file) { trail = handed all trail }))
-        (step.Failed (failure_of fault))
-        (λ footing story failures held fits stands none. (
-          record {
-            group = shown_group (Ready number size) (flying_of tickets all sync);
-            act = AddRecords;
-            later = sync_act sync;
-            fault = fault;
-            made = record {
-              makes = record { no_rest = none; group_is = refl; next = refl };
-              calls = subst (λ (l : List ℕ). Calls device (Append (Log number) l) (Err (error.Fault fault)) told) (sym (appended story fits)) calls;
-            };
-            failure_is = refl;
-          },
-          record {
-            footing = footing;
-            story = handed_over (ops_of all) story;
-            failures = failures ++ failure_of fault ∷ [];
-            state_is = refl;
-            fits = fits_handed (point_at trail) trail story all fits;
-            standing = standing_more failures standing (failure_of fault) stands;
-          },
-        ))
-
-  module _ (bytes : List ℕ) (number size : ℕ) where
-    -- behind the append, with so many bytes more
-    abbrev view_longer : List Ticketed → Option Flying → ℕ → ℕ → CoreView
-    view_longer waiting group job next_file = view_at told (Ready number (size + length bytes)) waiting group job next_file
-
-    abbrev BytesAre : List Batch → Type 0
-    BytesAre batches = bytes ≡ records_bytes size (payloads_from ((point_at trail).seq + 1) batches)
-
-    moved_flying : (waiting : List Ticketed) (tickets : List ℕ) (batches : List Batch) (sync : Bool) (job next_file : ℕ)
-        → batches ≢ [] → BytesAre batches → sync ≡ true → Calls device (Append (Log number) bytes) (Ok tt) told
-        → MakesCall (view_at device (Ready number size) waiting (Some (flying_of tickets batches sync)) job next_file) (step.Moved job call.Append)
-        (steps.handed_over (view_longer waiting (Some (flying_of tickets batches sync)) job next_file))
-    moved_flying waiting tickets [] sync job next_file some is wants calls = absurd (some refl)
-    moved_flying waiting tickets (batch ∷ others) false job next_file some is wants calls = absurd cc
-    moved_flying waiting tickets (batch ∷ others) true job next_file some is wants calls = added_in bytes number size batch others is waiting tickets job next_file calls
-
-    done_flying : (waiting : List Ticketed) (tickets : List ℕ) (batches : List Batch) (sync : Bool) (job next_file : ℕ)
-        → batches ≢ [] → BytesAre batches → sync ≡ false → Calls device (Append (Log number) bytes) (Ok tt) told
-        → MakesCall (view_at device (Ready number size) waiting (Some (flying_of tickets batches sync)) job next_file)
-        (step.Done job (point_at (published false (handed batches trail))).seq (length tickets))
-        (all_published false (steps.handed_over (view_longer waiting (Some (flying_of tickets batches sync)) job next_file)))
-    done_flying waiting tickets [] sync job next_file some is wants calls = absurd (some refl)
-    done_flying waiting tickets (batch ∷ others) true job next_file some is wants calls = absurd cc
-    done_flying waiting tickets (batch ∷ others) false job next_file some is wants calls = done_in bytes number size batch others is waiting tickets job next_file calls
-
-    refused_flying : (waiting : List Ticketed) (tickets : List ℕ) (batches : List Batch) (sync : Bool) (job next_file : ℕ) (fault : Fault)
-        → batches ≢ [] → BytesAre batches → Calls device (Append (Log number) bytes) (Err (error.Fault fault)) told
-        → MakesCall (view_at device (Ready number size) waiting (Some (flying_of tickets batches sync)) job next_file) (step.Failed (failure_of fault))
-        (stopped (failure_of fault) (steps.handed_over (view_at told (Ready number size) waiting (Some (flying_of tickets batches sync)) job next_file)))
-    refused_flying waiting tickets [] sync job next_file fault some is calls = absurd (some refl)
-    refused_flying waiting tickets (batch ∷ others) sync job next_file fault some is calls = unadded_in bytes number size batch others is waiting tickets sync job next_file fault calls
-
-    records_moved : (waiting : List Ticketed) (group : Option Flying) (job next_file : ℕ)
-        → batches_next waiting group ≢ [] → BytesAre (batches_next waiting group) → is_synced (group_entered waiting group) ≡ true → Calls device (Append (Log number) bytes) (Ok tt) told
-        → MakesCall (view_at device (Ready number size) waiting group job next_file) (step.Moved (job_entered waiting group job) call.Append)
-        (steps.handed_over (entered_at told (Ready number (size + length bytes)) waiting group job next_file))
-    records_moved waiting (Some group) job next_file some is wants calls = moved_flying waiting group.tickets group.batches group.sync job next_file some is wants calls
-    records_moved [] None job next_file some is wants calls = absurd (some refl)
-    records_moved (first ∷ rest) None job next_file some is wants calls =
-        let queue : List Ticketed = first ∷ rest in
-        let group : Flying = next_group queue in
-        formed_goes (view_at device (Ready number size) queue None job next_file) first rest (step.Moved (job + 1) call.Append) _ tt (λ absent. absurd cc) tt
-        (moved_flying (drop (next_size queue) queue) group.tickets group.batches group.sync (job + 1) next_file some is wants calls)
-
-    records_done : (waiting : List Ticketed) (group : Option Flying) (job next_file : ℕ)
-        → batches_next waiting group ≢ [] → BytesAre (batches_next waiting group) → is_synced (group_entered waiting group) ≡ false → Calls device (Append (Log number) bytes) (Ok tt) told
-        → MakesCall (view_at device (Ready number size) waiting group job next_file)
-        (step.Done (job_entered waiting group job) (point_in (all_published false (steps.handed_over (entered_at told (Ready number (size + length bytes)) waiting group job next_file)))).seq (length (tickets_in (without_batches (group_entered waiting group)))))
-        (all_published false (steps.handed_over (entered_at told (Ready number (size + length bytes)) waiting group job next_file)))
-    records_done waiting (Some group) job next_file some is wants calls = done_flying waiting group.tickets group.batches group.sync job next_file some is wants calls
-    records_done [] None job next_file some is wants calls = absurd (some refl)
-    records_done (first ∷ rest) None job next_file some is wants calls =
-        let queue : List Ticketed = first ∷ rest in
-        let group : Flying = next_group queue in
-        formed_goes (view_at device (Ready number size) queue None job next_file) first rest _ _ tt (λ absent. absurd cc) tt
-        (done_flying (drop (next_size queue) queue) group.tickets group.batches group.sync (job + 1) next_file some is wants calls)
-
-    records_refused : (waiting : List Ticketed) (group : Option Flying) (job next_file : ℕ) (fault : Fault)
-        → batches_next waiting group ≢ [] → BytesAre (batches_next waiting group) → Calls device (Append (Log number) bytes) (Err (error.Fault fault)) told
-        → MakesCall (view_at device (Ready number size) waiting group job next_file) (step.Failed (failure_of fault))
-        (stopped (failure_of fault) (steps.handed_over (entered_at told (Ready number size) waiting group job next_file)))
-    records_refused waiting (Some group) job next_file fault some is calls = refused_flying waiting group.tickets group.batches group.sync job next_file fault some is calls
-    records_refused [] None job next_file fault some is calls = absurd (some refl)
-    records_refused (first ∷ rest) None job next_file fault some is calls =
-        let queue : List Ticketed = first ∷ rest in
-        let group : Flying = next_group queue in
-        formed_goes (view_at device (Ready number size) queue None job next_file) first rest (step.Failed (failure_of fault)) _ tt (λ absent. absurd cc) tt
-        (refused_flying (drop (next_size queue) queue) group.tickets group.batches group.sync (job + 1) next_file fault some is calls)
-
-  -- ---- the same of what the code knows
-
-  module _ (bytes : List ℕ) (number size behind_size : ℕ) (stage : OwnLog) (waiting : List Ticketed) (group : Option Flying) (job next_file : ℕ)
-      (is : stage ≡ Ready number size) (some : batches_next waiting group ≢ [])
-      (bytes_are : bytes ≡ records_bytes size (payloads_from ((point_at trail).seq + 1) (batches_next waiting group))) (longer : behind_size ≡ size + length bytes) where
-    abbrev pub new_view : CoreView
-    new_view = entered_at told (Ready number behind_size) waiting group job next_file
-
-    pub records_moved_at : is_synced (group_entered waiting group) ≡ true → Calls device (Append (Log number) bytes) (Ok tt) told
-        → MakesCall (view_at device stage waiting group job next_file) (step.Moved (job_entered waiting group job) call.Append) (steps.handed_over new_view)
-    records_moved_at wants calls = rw (is, longer) (records_moved bytes number size waiting group job next_file some bytes_are wants calls)
-
-    pub records_done_at : is_synced (group_entered waiting group) ≡ false → Calls device (Append (Log number) bytes) (Ok tt) told
-        → MakesCall (view_at device stage waiting group job next_file)
-        (step.Done (job_entered waiting group job) (point_in (all_published false (steps.handed_over new_view))).seq (length (tickets_in (without_batches (group_entered waiting group)))))
-        (all_published false (steps.handed_over new_view))
-    records_done_at wants calls = rw (is, longer) (records_done bytes number size waiting group job next_file some bytes_are wants calls)
-
-    pub records_refused_at : (fault : Fault) → Calls device (Append (Log number) bytes) (Err (error.Fault fault)) told
-        → MakesCall (view_at device stage waiting group job next_file) (step.Failed (failure_of fault))
-        (stopped (failure_of fault) (steps.handed_over (entered_at told stage waiting group job next_file)))
-    records_refused_at fault calls = rw is (records_refused bytes number size waiting group job next_file fault some bytes_are calls)
+-- behind a call that failed
+pub failed_goes : (old now : CoreView) (act : Act) (fault : Fault) → IsNext act old.group → old.failed ≡ None → HasLog act old.log → IsRefused act fault old now
+    → MakesCall old (step.Failed (failure_of fault)) (stopped fault (tried act now))
+failed_goes old now act fault next calm has made =
+    subst (λ (v : CoreView). MakesCall old (step.Failed (failure_of fault)) (stopped fault (tried act v))) (sym made.view_is)
+    (known old next.flight
+    (λ (v : CoreView). Calls v.device (change_of act v) (Err (error.Fault fault)) now.device
+    → MakesCall v (step.Failed (failure_of fault)) (stopped fault (tried act (record v { device = now.device }))))
+    next.group_is calm (refused old now.device next.flight act _ fault next.left_is has) made.calls)

@@ -1,16 +1,11 @@
--- How a story that fits a core goes on.
-use Rattle.std.proofs.Common.{◌≡◌, suc, ◌+◌, Bool, true, false, List, [], ◌∷◌, ◌++◌, length, Option, Some, refl, sym, ap, ◌∙◌, arith, append_assoc}
-use Rattle.std.proofs.lemmas.List.{length-append}
-use Rattle.std.specs.Option.{option_or}
+-- How a story goes on of which another is a part.
+use Rattle.std.proofs.Common.{◌≡◌, ℕ, suc, ◌+◌, Bool, true, false, List, [], ◌∷◌, ◌++◌, length, take, drop, refl, sym, ap, ◌∙◌, arith, append_assoc}
+use Rattle.std.proofs.lemmas.List.{length-append, take-append-drop}
 use Rattle.keel_base.specs.Points.{Point, after_batch, fold_batches}
-use Rattle.keel_base.specs.declared.failure.Failure.{Failure}
 use Rattle.keel_base.specs.declared.op.Batch.{Batch}
 use Rattle.keel_base.specs.declared.op.Op.{Op}
-use Rattle.keel_machine.specs.Admission.{ops_of, count_ops, standing_of}
-use Rattle.keel_machine.specs.States.{Story}
-use Rattle.keel_machine.specs.WritingAfter.{handed_over, story_published}
-use Rattle.keel_core.specs.Trails.{TrailShown, base_of, handed, published, point_at}
-use Rattle.keel_core.specs.Views.{Fits}
+use Rattle.keel_machine.specs.Admission.{ops_of, count_ops}
+use Rattle.keel_machine.specs.States.{Story, IsPartOf, handed, point_of, published}
 
 pub ops_of-append : (front back : List Batch) → ops_of (front ++ back) ≡ ops_of front ++ ops_of back
 ops_of-append [] back = refl
@@ -26,50 +21,66 @@ seq-fold_batches point (ops ∷ batches) =
     let first : count_ops (ops ∷ batches) ≡ length ops + count_ops batches = refl in
     omega (arith, first, seq-fold_batches (after_batch point ops) batches)
 
+-- ---- parts
+
+pub part_self : (story : Story) → IsPartOf story story
+part_self story = record { earlier = []; start_is = refl; log_is = refl; limbo_is = refl; floor_is = omega arith }
+
+pub part_point : (part story : Story) → IsPartOf part story → point_of part ≡ point_of story
+part_point part story h =
+    ap (λ (p : Point). fold_batches p part.log) h.start_is ∙ sym (fold_batches-append story.start h.earlier part.log) ∙ ap (fold_batches story.start) (sym h.log_is)
+
+pub part_handed : (part story : Story) (batches : List (List Op)) → IsPartOf part story → IsPartOf (handed batches part) (handed batches story)
+part_handed part story batches h = record {
+  earlier = h.earlier;
+  start_is = h.start_is;
+  log_is = h.log_is;
+  limbo_is = ap (λ (l : List (List Op)). l ++ batches) h.limbo_is;
+  floor_is = h.floor_is;
+}
+
+log_published : (part story : Story) (h : IsPartOf part story) → story.log ++ story.limbo ≡ h.earlier ++ (part.log ++ part.limbo)
+log_published part story h = (λ i. h.log_is i ++ h.limbo_is i) ∙ append_assoc h.earlier part.log part.limbo
+
+floor_published : (sync : Bool) (part story : Story) (h : IsPartOf part story) → (published sync story).floor ≡ length h.earlier + (published sync part).floor
+floor_published false part story h = h.floor_is
+floor_published true part story h = ap length (log_published part story h) ∙ length-append h.earlier (part.log ++ part.limbo)
+
+pub part_published : (part story : Story) (sync : Bool) → IsPartOf part story → IsPartOf (published sync part) (published sync story)
+part_published part story sync h = record {
+  earlier = h.earlier;
+  start_is = h.start_is;
+  log_is = log_published part story h;
+  limbo_is = refl;
+  floor_is = floor_published sync part story h;
+}
+
+-- the map and the sequence behind the batches that are published
+pub point_published : (story : Story) (sync : Bool) → point_of (published sync story) ≡ fold_batches (point_of story) story.limbo
+point_published story sync = fold_batches-append story.start story.log story.limbo
+
+-- ---- a trail's own batches
+
+drop_whole : {A : Type 0} (items : List A) → drop (length items) items ≡ []
+drop_whole [] = refl
+drop_whole (item ∷ items) = drop_whole items
+
+take_whole : {A : Type 0} (items : List A) → take (length items) items ≡ items
+take_whole [] = refl
+take_whole (item ∷ items) = ap (λ l. item ∷ l) (take_whole items)
+
 length-ops_of : (batches : List Batch) → length (ops_of batches) ≡ length batches
 length-ops_of [] = refl
 length-ops_of (batch ∷ batches) = ap suc (length-ops_of batches)
 
-pub fits_handed : (point : Point) (trail : TrailShown) (story : Story) (batches : List Batch) → Fits point trail story
-    → Fits point (handed batches trail) (handed_over (ops_of batches) story)
-fits_handed point trail story batches fits = record {
-  earlier = fits.earlier;
-  log_is = fits.log_is;
-  limbo_is = ap (λ (l : List (List Op)). l ++ ops_of batches) fits.limbo_is ∙ sym (ops_of-append trail.limbo batches);
-  floor_is = fits.floor_is;
-  point_is = fits.point_is;
-}
+-- all of a trail's batches are those that were published, and those that were in limbo
+pub whole_log : (batches : List Batch) (count all : ℕ) → all ≡ length batches → ops_of (take all batches) ≡ ops_of (take count batches) ++ ops_of (drop count batches)
+whole_log batches count all is =
+    ap (λ n. ops_of (take n batches)) is ∙ ap ops_of (take_whole batches) ∙ sym (ap ops_of (take-append-drop count batches)) ∙ ops_of-append (take count batches) (drop count batches)
 
--- the map and the sequence behind the batches that are published
-pub point_published : (trail : TrailShown) (sync : Bool) → point_at (published sync trail) ≡ fold_batches (point_at trail) (ops_of trail.limbo)
-point_published trail sync = ap (fold_batches (base_of trail)) (ops_of-append trail.log trail.limbo) ∙ fold_batches-append (base_of trail) (ops_of trail.log) (ops_of trail.limbo)
+pub no_limbo : (batches : List Batch) (all : ℕ) → all ≡ length batches → ops_of (drop all batches) ≡ []
+no_limbo batches all is = ap (λ n. ops_of (drop n batches)) is ∙ ap ops_of (drop_whole batches)
 
-log_published : (trail : TrailShown) (story : Story) (earlier : List (List Op)) → story.log ≡ earlier ++ ops_of trail.log → story.limbo ≡ ops_of trail.limbo
-    → story.log ++ story.limbo ≡ earlier ++ ops_of (trail.log ++ trail.limbo)
-log_published trail story earlier log_is limbo_is =
-    (λ i. log_is i ++ limbo_is i) ∙ append_assoc earlier (ops_of trail.log) (ops_of trail.limbo) ∙ ap (λ (l : List (List Op)). earlier ++ l) (sym (ops_of-append trail.log trail.limbo))
-
-floor_published : (sync : Bool) (trail : TrailShown) (story : Story) (earlier : List (List Op)) → story.log ++ story.limbo ≡ earlier ++ ops_of (trail.log ++ trail.limbo)
-    → story.floor ≡ length earlier + trail.floor → (story_published sync story).floor ≡ length earlier + (published sync trail).floor
-floor_published false trail story earlier log_is floor_is = floor_is
-floor_published true trail story earlier log_is floor_is =
-    ap length log_is ∙ length-append earlier (ops_of (trail.log ++ trail.limbo)) ∙ ap (λ n. length earlier + n) (length-ops_of (trail.log ++ trail.limbo))
-
-pub fits_published : (trail : TrailShown) (story : Story) (sync : Bool) → Fits (point_at trail) trail story
-    → Fits (point_at (published sync trail)) (published sync trail) (story_published sync story)
-fits_published trail story sync fits =
-    let log_is = log_published trail story fits.earlier fits.log_is fits.limbo_is in
-    record {
-      earlier = fits.earlier;
-      log_is = log_is;
-      limbo_is = refl;
-      floor_is = floor_published sync trail story fits.earlier log_is fits.floor_is;
-      point_is =
-          point_published trail sync ∙ (λ i. fold_batches (fits.point_is i) (sym fits.limbo_is i))
-          ∙ sym (fold_batches-append story.start story.log story.limbo);
-    }
-
-pub standing_more : (failures : List Failure) (standing : Option Failure) (failure : Failure) → standing ≡ standing_of failures
-    → option_or standing (Some failure) ≡ standing_of (failures ++ failure ∷ [])
-standing_more [] standing failure is = ap (λ (o : Option Failure). option_or o (Some failure)) is
-standing_more (first ∷ failures) standing failure is = ap (λ (o : Option Failure). option_or o (Some failure)) is
+pub whole_length : (batches : List Batch) (count all : ℕ) → all ≡ length batches → all ≡ length (ops_of (take count batches) ++ ops_of (drop count batches))
+whole_length batches count all is =
+    is ∙ sym (length-ops_of batches) ∙ sym (ap (λ l. length (ops_of l)) (take_whole batches)) ∙ ap (λ n. length (ops_of (take n batches))) (sym is) ∙ ap (λ (l : List (List Op)). length l) (whole_log batches count all is)

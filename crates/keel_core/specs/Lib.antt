@@ -1,4 +1,3 @@
-pub mod Logs
 pub mod Trails
 pub mod Flights
 pub mod Queues

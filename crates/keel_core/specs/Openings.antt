@@ -4,14 +4,12 @@ use Rattle.keel_disk.specs.Plain.{image_read}
 use Rattle.keel_disk.specs.State.{directory_read}
 use Rattle.keel_disk.specs.Told.{Told}
 use Rattle.keel_disk.specs.Seen.{Seen}
-use Rattle.keel_machine.specs.Opening.{continues}
-use Rattle.keel_machine.specs.States.{State, point_of}
+use Rattle.keel_machine.specs.Opening.{continues, point_found}
+use Rattle.keel_machine.specs.States.{State, new_story, point_of}
 use Rattle.keel_machine.specs.Turns.{Opening, Answers, after}
 use Rattle.keel_reading.specs.declared.replay.Found.{Found}
 use Rattle.keel_reading.specs.Answers.{AreNames}
 use Rattle.keel_reading.specs.Reading.{Reads}
-use Rattle.keel_core.specs.declared.log.OwnLog.TheVariants.{Absent}
-use Rattle.keel_core.specs.Trails.{no_trail}
 use Rattle.keel_core.specs.Views.{CoreView, StandsFor, point_in}
 
 -- The story is as a crash leaves it. The device tells its directory, whose files have names of the store, and which
@@ -37,14 +35,14 @@ Expects s = WhereGoesOn (continues s.mode s.footing) s
 abbrev pub fresh : Seen → Found → CoreView
 fresh device found = record {
   device = device;
-  trail = no_trail found.batches;
-  stage = Absent;
+  trail = new_story (point_found found);
+  log = None;
   waiting = [];
   group = None;
   outcomes = [];
   last_ticket = 0;
   job = 0;
-  standing = None;
+  failed = None;
   next_file = found.next_file;
 }
 

@@ -1,62 +1,157 @@
 -- How a core goes on in parts of a write step.
-use Rattle.std.specs.Prelude.{◌≡◌, ℕ, ◌+◌, ◌^◌, nat_le, Bool, List, [], ◌++◌, Option, Some, None}
-use Rattle.std.specs.Option.{option_or}
-use Rattle.keel_base.specs.declared.failure.Counter.TheVariants.{FileNumber}
-use Rattle.keel_base.specs.declared.failure.Failure.{Failure}
+use Rattle.std.specs.Prelude.{◌≡◌, ℕ, ◌+◌, Bool, true, false, List, [], ◌∷◌, ◌++◌, length, drop, Option, Some, None, Result, Ok, Err, option_map, unwrap_or}
+use Rattle.keel_base.specs.declared.failure.Call.TheVariants as call
+use Rattle.keel_base.specs.declared.failure.Fault.{Fault}
+use Rattle.keel_base.specs.declared.file_name.FileName.TheVariants.{Log}
+use Rattle.keel_batch.specs.Batches.{payloads_behind}
+use Rattle.keel_disk.specs.declared.change.Change.{Change}
+use Rattle.keel_disk.specs.declared.change.Change.TheVariants as change
+use Rattle.keel_disk.specs.declared.error.DiskError.{DiskError}
+use Rattle.keel_disk.specs.declared.error.DiskError.TheVariants as error
+use Rattle.keel_disk.specs.Seen.{Calls, IsQuiet}
 use Rattle.keel_frag.specs.Writing.{records_bytes}
+use Rattle.keel_group.specs.Forming.{next_size}
 use Rattle.keel_group.specs.Queue.{tickets_of}
 use Rattle.keel_machine.specs.declared.answers.Outcome.TheVariants as outcome
 use Rattle.keel_machine.specs.declared.steps.WriteStep.{WriteStep}
-use Rattle.keel_machine.specs.declared.steps.WriteStep.TheVariants.{Spent}
 use Rattle.keel_machine.specs.declared.steps.WriteStep.TheVariants as step
-use Rattle.keel_machine.specs.Admission.{ops_of}
-use Rattle.keel_machine.specs.Tests.{when}
-use Rattle.keel_machine.specs.Writing.{payloads_from}
-use Rattle.keel_machine.specs.WritingAfter.{done_each}
+use Rattle.keel_machine.specs.Admission.{batches_of_group, ops_of, tickets_of_group}
+use Rattle.keel_machine.specs.States.{Group, handed, left_of, published}
+use Rattle.keel_machine.specs.WritingAfter.{done_each, failure_of}
+use Rattle.keel_core.specs.declared.flight.Act.{Act}
+use Rattle.keel_core.specs.declared.flight.Act.TheVariants.{MakeLog, SyncDirectory, AddRecords, SyncLog}
 use Rattle.keel_core.specs.declared.log.OwnLog.{OwnLog}
-use Rattle.keel_core.specs.declared.log.OwnLog.TheVariants.{Absent, Ready}
-use Rattle.keel_core.specs.Flights.{Flying}
-use Rattle.keel_core.specs.Logs.{given_up}
-use Rattle.keel_core.specs.Queues.{batches_in, batches_next, given, tickets_in, without_batches}
-use Rattle.keel_core.specs.Trails.{handed, published}
-use Rattle.keel_core.specs.Views.{CoreView, point_in}
+use Rattle.keel_core.specs.Flights.{act_of, later_than, made_log}
+use Rattle.keel_core.specs.Queues.{batches_next, first_act, given, goes_on, gone_on, next_group, without_batches}
+use Rattle.keel_core.specs.Views.{CoreView, point_in, with_device}
 
--- a log that is to be made needs a number below the end
-abbrev pub file_rest : OwnLog → ℕ → Option WriteStep
-file_rest Absent next_file = when (nat_le (2 ^ 56) next_file) (Spent FileNumber)
-file_rest _ next_file = None
+-- ---- the next act
 
-abbrev pub NumberIs : ℕ → OwnLog → Type 0
-NumberIs number (Ready own size) = own ≡ number
-NumberIs number _ = ⊥
+-- this is the next act of the group in flight
+pub record IsNext (act : Act) (group : Option Group) : Type 0 where
+  pub flight : Group
+  pub sync : Bool
+  pub group_is : group ≡ Some flight
+  pub left_is : left_of flight ≡ act_of act ∷ later_than act sync
+  pub log_is : flight.progress.log ≡ made_log act
 
--- the group in flight has handed its batches to the log
-abbrev pub IsGone : Option Flying → Type 0
-IsGone None = ⊥
-IsGone (Some group) = group.batches ≡ []
+-- that of the group in flight, or of the next one
+abbrev pub NextIs : Act → Option Group → Option OwnLog → Type 0
+NextIs act None log = act ≡ first_act log
+NextIs act (Some group) log = IsNext act (Some group)
 
--- the records of the batches that the next append hands to the log, behind so many bytes
-abbrev pub next_bytes : CoreView → ℕ → List ℕ
-next_bytes view size = records_bytes size (payloads_from ((point_in view).seq + 1) (batches_next view.waiting view.group))
+-- the next group of those that wait is in flight, and this is its first act
+abbrev pub formed : Act → CoreView → CoreView
+formed first view = record view {
+  waiting = drop (next_size view.waiting) view.waiting;
+  group = Some (next_group view.waiting first);
+  job = view.job + 1;
+}
+
+-- ---- calls
+
+abbrev pub number_in : Option OwnLog → ℕ
+number_in log = unwrap_or (option_map (λ (own : OwnLog). own.number) log) 0
+
+abbrev pub size_in : Option OwnLog → ℕ
+size_in log = unwrap_or (option_map (λ (own : OwnLog). own.size) log) 0
+
+-- the records of the batches that the next append hands to the log
+abbrev pub next_bytes : CoreView → List ℕ
+next_bytes view = records_bytes (size_in view.log) (payloads_behind (point_in view).seq (ops_of (batches_next view.waiting view.group)))
+
+abbrev pub change_of : Act → CoreView → Change
+change_of MakeLog view = change.Create (Log view.next_file)
+change_of (SyncDirectory log) view = change.SyncDir
+change_of AddRecords view = change.Append (Log (number_in view.log)) (next_bytes view)
+change_of SyncLog view = change.Sync (Log (number_in view.log))
+
+abbrev pub log_longer : ℕ → Option OwnLog → Option OwnLog
+log_longer more None = None
+log_longer more (Some own) = Some (record own { size = own.size + more })
+
+abbrev pub log_behind : Act → CoreView → Option OwnLog
+log_behind AddRecords view = log_longer (length (next_bytes view)) view.log
+log_behind _ view = view.log
+
+-- the act's call was answered Ok, and the log is as long as it then is
+pub record IsMade (act : Act) (old new : CoreView) : Type 0 where
+  pub calls : Calls old.device (change_of act old) (Ok tt) new.device
+  pub view_is : new ≡ record old { device = new.device; log = log_behind act old }
+
+-- the act's call failed
+pub record IsRefused (act : Act) (fault : Fault) (old new : CoreView) : Type 0 where
+  pub calls : Calls old.device (change_of act old) (Err (error.Fault fault)) new.device
+  pub view_is : new ≡ with_device new.device old
+
+-- memory was wanting, and no call was made
+pub record IsWanted (old new : CoreView) : Type 0 where
+  pub quiet : IsQuiet old.device None new.device
+  pub view_is : new ≡ with_device new.device old
+
+abbrev pub Makes : Act → CoreView → Result (Unit {0}) DiskError → CoreView → Type 0
+Makes act old (Ok done) new = IsMade act old new
+Makes act old (Err (error.Fault fault)) new = IsRefused act fault old new
+Makes act old (Err error.OutOfMemory) new = IsWanted old new
+
+-- ---- what a call leaves
+
+-- the group goes on with this act
+abbrev pub moved_on : Act → CoreView → CoreView
+moved_on next view = record view { group = gone_on (made_log next) view.group }
+
+abbrev pub file_drawn : CoreView → CoreView
+file_drawn view = record view { next_file = view.next_file + 1 }
 
 abbrev pub handed_over : CoreView → CoreView
-handed_over view = record view { trail = handed (batches_in view.group) view.trail; group = without_batches view.group }
+handed_over view = record view { trail = handed (ops_of (batches_of_group view.group)) view.trail; group = without_batches view.group }
 
 -- what is in limbo is published, and the group is over
 abbrev pub all_published : Bool → CoreView → CoreView
 all_published sync view = record view {
   trail = published sync view.trail;
   group = None;
-  outcomes = view.outcomes ++ done_each (point_in view).seq (tickets_in view.group) (ops_of view.trail.limbo);
+  outcomes = view.outcomes ++ done_each (point_in view).seq (tickets_of_group view.group) view.trail.limbo;
 }
 
--- the group is over, unpublished, and the first failure stands
-abbrev pub stopped : Failure → CoreView → CoreView
-stopped failure view = record view {
-  stage = given_up view.stage;
+abbrev pub published_step : Bool → CoreView → WriteStep
+published_step sync view = step.Done view.job (point_in (all_published sync view)).seq (length (tickets_of_group view.group))
+
+-- a group that handed its batches over goes on with the sync, or is published
+abbrev pub added : Bool → CoreView → CoreView
+added true view = moved_on SyncLog view
+added false view = all_published false view
+
+abbrev pub added_step : Bool → CoreView → WriteStep
+added_step true view = step.Moved view.job call.Append
+added_step false view = published_step false view
+
+-- behind a call of the act that was answered Ok
+abbrev pub done : Act → CoreView → CoreView
+done MakeLog view = moved_on (SyncDirectory view.next_file) (file_drawn view)
+done (SyncDirectory log) view = moved_on AddRecords (record view { log = Some (record { number = log; size = 0 }) })
+done AddRecords view = added (goes_on view.group) (handed_over view)
+done SyncLog view = all_published true view
+
+abbrev pub done_step : Act → CoreView → WriteStep
+done_step MakeLog view = step.Moved view.job call.Create
+done_step (SyncDirectory log) view = step.Moved view.job call.SyncDir
+done_step AddRecords view = added_step (goes_on view.group) (handed_over view)
+done_step SyncLog view = published_step true view
+
+-- behind a call of the act that failed a number is used up, and batches may be found in the log
+abbrev pub tried : Act → CoreView → CoreView
+tried MakeLog view = file_drawn view
+tried (SyncDirectory log) view = view
+tried AddRecords view = handed_over view
+tried SyncLog view = view
+
+-- the group is over, unpublished
+abbrev pub stopped : Fault → CoreView → CoreView
+stopped fault view = record view {
   group = None;
-  outcomes = view.outcomes ++ given (outcome.Failed failure) (tickets_in view.group);
-  standing = option_or view.standing (Some failure);
+  outcomes = view.outcomes ++ given (outcome.Failed (failure_of fault)) (tickets_of_group view.group);
+  failed = Some fault;
 }
 
 -- a queue that is turned away is empty, and its tickets have their outcomes

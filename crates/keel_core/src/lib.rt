@@ -13,6 +13,7 @@
 //! answer has its cause there, and the core then stands for the state that the machine goes on to.
 #![tactic(auto)]
 
+mod flight;
 mod log;
 mod opening;
 mod placing;

@@ -7,7 +7,6 @@ ghost use Rattle.keel_core.specs.Openings.{Expects, Opens, fresh};
 ghost use Rattle.keel_core.specs.Placing.{IsPlaced};
 ghost use Rattle.keel_core.specs.Trails.{point_read};
 
-use crate::log::OwnLog;
 use crate::placing::placed;
 use crate::queue::Queue;
 use crate::store::Core;
@@ -40,7 +39,7 @@ impl<D: Disk> Core<D> {
         let mut disk = disk;
         match read_logs(alloc, &mut disk) {
             Ok(found) => match placed(alloc, found.batches.as_slice()) {
-                Ok(mem) => Ok(Core::behind(alloc, disk, found, mem)),
+                Ok(mem) => Ok(Core::from_found(alloc, disk, found, mem)),
                 Err(OutOfMemory) => Err(Refused {
                     refusal: OpenRefusal::OutOfMemory,
                     disk,
@@ -51,7 +50,7 @@ impl<D: Disk> Core<D> {
     }
 
     // The store behind what was found, which writes to a log of its own.
-    fn behind(alloc: Global, disk: D, found: Found, mem: Mem) -> Core<D>
+    fn from_found(alloc: Global, disk: D, found: Found, mem: Mem) -> Core<D>
         requires runs { RunsOn found }
         requires placed { IsPlaced mem (point_read found.batches) }
         ensures { result ≡ fresh (D.seen disk) found }
@@ -66,11 +65,11 @@ impl<D: Disk> Core<D> {
             trail: Trail::new(alloc, batches),
             mem,
             queue: Queue::new(alloc),
-            log: OwnLog::Absent,
+            log: None,
             last_seq,
             handed_seq: last_seq,
             next_file,
-            standing: None,
+            failed: None,
         }
     }
 }

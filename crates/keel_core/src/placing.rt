@@ -15,12 +15,12 @@ use std::alloc::Global;
 /// Puts batches, whose room was reserved, numbered from `seq` on.
 pub(crate) fn place(mem: &mut Mem, seq: u64, batches: &[Batch])
     requires each { EachIsAdmissible batches.now }
-    requires bytes { bytes_needed batches.now ≤ mem.old.bytes }
+    requires bytes { bytes_needed (ops_of batches.now) ≤ mem.old.bytes }
     requires entries { count_ops (ops_of batches.now) ≤ mem.old.entries }
     requires above { All (λ row. row.seq < seq) mem.old.rows }
     requires last { seq + count_ops (ops_of batches.now) ≤ 2 ^ 56 + 1 }
     ensures rows { mem.new.rows ≡ mem.old.rows ++ batch_rows seq (ops_of batches.now) }
-    ensures bytes { mem.new.bytes + bytes_needed batches.now ≡ mem.old.bytes }
+    ensures bytes { mem.new.bytes + bytes_needed (ops_of batches.now) ≡ mem.old.bytes }
     ensures entries { mem.new.entries + count_ops (ops_of batches.now) ≡ mem.old.entries }
 {
     let mut next = seq;

@@ -1,29 +1,22 @@
 // The batches that wait, the group in flight, and the outcomes that weren't taken.
-ghost use Rattle.std.specs.Prelude.{◌≡◌, ◌+◌, ◌<◌, ◌≤◌, ◌^◌, ◌++◌, ◌==◌, [], not, filter, length, drop, vec_len, vec_capacity, None, IfOk, OnOk};
+ghost use Rattle.std.specs.Prelude.{◌≡◌, ◌+◌, ◌<◌, ◌≤◌, ◌^◌, ◌++◌, ◌==◌, [], not, filter, length, drop, vec_len, vec_capacity, None, Some, OnOk};
 ghost use Rattle.std.specs.List.{list_any};
-ghost use Rattle.keel_group.specs.Forming.{EachIsAdmissible};
+ghost use Rattle.keel_group.specs.Forming.{EachIsAdmissible, HasRoomFor, next_batches, next_size};
 ghost use Rattle.keel_group.specs.Queue.{batches_of, tickets_of};
-ghost use Rattle.keel_machine.specs.Admission.{count_ops, ops_of, outcome_kept};
+ghost use Rattle.keel_machine.specs.Admission.{batches_of_group, count_ops, ops_of, outcome_kept, tickets_of_group};
 ghost use Rattle.keel_machine.specs.WritingAfter.{done_each, seq_behind};
 ghost use Rattle.keel_core.specs.Queues.{given};
 
-use keel_base::{Batch, Failure, OutOfMemory};
-use keel_group::{Formed, Group};
-use keel_machine::Outcome;
+use crate::flight::{Act, Flight};
+use keel_base::{Batch, Call, Failure, OutOfMemory};
+use keel_group::{Formed, MAX_WAITING, WaitQueue};
+use keel_machine::{Outcome, WriteStep};
 use std::alloc::Global;
-
-/// The group in flight, which has its batches until they are handed to the log.
-#[derive(Drop)]
-pub(crate) struct Flight {
-    pub(crate) tickets: Vec<u64>,
-    pub(crate) batches: Vec<Batch>,
-    pub(crate) sync: bool,
-}
 
 /// There is always room for the outcomes of all that wait and of the group in flight.
 #[derive(Drop)]
 pub(crate) struct Queue {
-    pub(crate) waiting: Group,
+    pub(crate) waiting: WaitQueue,
     pub(crate) group: Option<Flight>,
     pub(crate) outcomes: Vec<(u64, Outcome)>,
     pub(crate) last_ticket: u64,
@@ -31,14 +24,14 @@ pub(crate) struct Queue {
 }
 
 impl Queue {
-    ghost use Rattle.keel_core.specs.Flights.{flying};
-    ghost use Rattle.keel_core.specs.Queues.{IsNewQueue, HasRoom, group_entered, waiting_entered, job_entered, batches_in, batches_next, tickets_in, without_batches, outcome_told, on_its_way, is_synced};
+    ghost use Rattle.keel_core.specs.Flights.{flying, next_in, with_next, is_synced};
+    ghost use Rattle.keel_core.specs.Queues.{IsNewQueue, batches_next, next_group, without_batches, outcome_told, on_its_way};
 
     pub(crate) fn new(alloc: Global) -> Queue
         ensures { IsNewQueue result }
     {
         Queue {
-            waiting: Group::new(alloc),
+            waiting: WaitQueue::new(alloc),
             group: None,
             outcomes: Vec::new(alloc),
             last_ticket: 0,
@@ -48,7 +41,7 @@ impl Queue {
 
     /// How many batches the group in flight has tickets for.
     pub(crate) fn in_flight(&self) -> usize
-        ensures { result ≡ length (tickets_in (flying self.now.group)) }
+        ensures { result ≡ length (tickets_of_group (flying self.now.group)) }
     {
         match &self.group {
             Some(group) => group.tickets.len(),
@@ -58,7 +51,7 @@ impl Queue {
 
     /// How many batches the group in flight has still to hand over.
     pub(crate) fn held(&self) -> usize
-        ensures { result ≡ length (batches_in (flying self.now.group)) }
+        ensures { result ≡ length (batches_of_group (flying self.now.group)) }
     {
         match &self.group {
             Some(group) => group.batches.len(),
@@ -68,15 +61,16 @@ impl Queue {
 
     /// Takes the memory of one batch more, and of the outcomes of all that wait, of this one, and of the group in flight.
     pub(crate) fn reserve(&mut self) -> Result<(), OutOfMemory>
-        requires { length (tickets_in (flying self.old.group)) ≤ 64 }
-        ensures waiting { self.new.waiting ≡ self.old.waiting }
+        requires { length (tickets_of_group (flying self.old.group)) ≤ 64 }
+        ensures waiting { self.new.waiting.items ≡ self.old.waiting.items }
+        ensures place { OnOk result (0 < self.new.waiting.spare) }
         ensures group { self.new.group ≡ self.old.group }
         ensures outcomes { self.new.outcomes.items ≡ self.old.outcomes.items }
         ensures last_ticket { self.new.last_ticket ≡ self.old.last_ticket }
         ensures job { self.new.job ≡ self.old.job }
         ensures len { vec_len self.new.outcomes ≡ vec_len self.old.outcomes }
         ensures room { vec_capacity self.old.outcomes ≤ vec_capacity self.new.outcomes }
-        ensures ok { OnOk result (vec_len self.new.outcomes + (length (tickets_in (flying self.old.group)) + length self.old.waiting + 1) ≤ vec_capacity self.new.outcomes) }
+        ensures ok { OnOk result (vec_len self.new.outcomes + (length (tickets_of_group (flying self.old.group)) + length self.old.waiting.items + 1) ≤ vec_capacity self.new.outcomes) }
     {
         self.waiting.reserve()?;
         let count = self.in_flight() + self.waiting.waiting() as usize + 1;
@@ -87,16 +81,16 @@ impl Queue {
     /// How many ops wait or are in flight and aren't handed to the log.
     #[tactic(auto, using(crate::proofs::Lists::ops_counted))]
     pub(crate) fn ops_before(&self) -> u64
-        requires { count_ops (ops_of (batches_in (flying self.now.group))) + count_ops (ops_of (batches_of self.now.waiting)) < 2 ^ 64 }
-        ensures { result ≡ count_ops (ops_of (batches_in (flying self.now.group))) + count_ops (ops_of (batches_of self.now.waiting)) }
+        requires { count_ops (ops_of (batches_of_group (flying self.now.group))) + count_ops (ops_of (batches_of self.now.waiting.items)) < 2 ^ 64 }
+        ensures { result ≡ count_ops (ops_of (batches_of_group (flying self.now.group))) + count_ops (ops_of (batches_of self.now.waiting.items)) }
     {
         self.ops_held() + self.waiting.waiting_ops()
     }
 
     // How many ops of the group in flight aren't handed to the log.
     fn ops_held(&self) -> u64
-        requires { count_ops (ops_of (batches_in (flying self.now.group))) < 2 ^ 64 }
-        ensures { result ≡ count_ops (ops_of (batches_in (flying self.now.group))) }
+        requires { count_ops (ops_of (batches_of_group (flying self.now.group))) < 2 ^ 64 }
+        ensures { result ≡ count_ops (ops_of (batches_of_group (flying self.now.group))) }
     {
         match &self.group {
             Some(group) => count_ops(&group.batches),
@@ -106,8 +100,8 @@ impl Queue {
 
     /// The batches that the next append hands to the log.
     pub(crate) fn next_batches(&self) -> &[Batch]
-        ensures batches { result.now ≡ batches_next self.now.waiting (flying self.now.group) }
-        ensures each { EachIsAdmissible (batches_in (flying self.now.group)) → EachIsAdmissible result.now }
+        ensures batches { result.now ≡ batches_next self.now.waiting.items (flying self.now.group) }
+        ensures each { EachIsAdmissible (batches_of_group (flying self.now.group)) → EachIsAdmissible result.now }
     {
         match &self.group {
             Some(group) => group.batches.as_slice(),
@@ -117,7 +111,7 @@ impl Queue {
 
     /// Whether the group in flight is to be synced.
     pub(crate) fn is_synced(&self) -> bool
-        ensures { result ≡ is_synced (flying self.now.group) }
+        ensures { result ≡ is_synced self.now.group }
     {
         match &self.group {
             Some(group) => group.sync,
@@ -125,38 +119,19 @@ impl Queue {
         }
     }
 
-    /// Takes the memory for a group that is to be formed, where none is in flight.
-    pub(crate) fn prepare(&self) -> Result<Formed, OutOfMemory>
-        ensures { IfOk result (HasRoom self.now.waiting (flying self.now.group)) }
-    {
-        match &self.group {
-            Some(_) => {
-                let alloc = *self.outcomes.allocator();
-                Ok(Formed {
-                    batches: Vec::new(alloc),
-                    tickets: Vec::new(alloc),
-                    sync: false,
-                })
-            }
-            None => self.waiting.prepare(),
-        }
-    }
-
-    /// Where no group is in flight, the batches that wait form one in what was prepared.
-    pub(crate) fn enter(&mut self, prepared: Formed)
-        requires room { HasRoom self.old.waiting (flying self.old.group) prepared }
-        requires job { self.old.job ≤ 2 ^ 56 }
-        ensures waiting { self.new.waiting ≡ waiting_entered self.old.waiting (flying self.old.group) }
-        ensures group { flying self.new.group ≡ group_entered self.old.waiting (flying self.old.group) }
-        ensures job { self.new.job ≡ job_entered self.old.waiting (flying self.old.group) self.old.job }
+    /// The batches that wait form the next group, in what was prepared for it.
+    pub(crate) fn form(&mut self, prepared: Formed, first: Act)
+        requires room { HasRoomFor (next_size self.old.waiting.items) prepared }
+        requires job { self.old.job < 2 ^ 56 }
+        ensures waiting { self.new.waiting.items ≡ drop (next_size self.old.waiting.items) self.old.waiting.items }
+        ensures group { flying self.new.group ≡ Some (next_group self.old.waiting.items first) }
+        ensures next { next_in self.new.group ≡ Some first }
+        ensures job { self.new.job ≡ self.old.job + 1 }
         ensures outcomes { self.new.outcomes ≡ self.old.outcomes }
         ensures last_ticket { self.new.last_ticket ≡ self.old.last_ticket }
-        ensures each { EachIsAdmissible (batches_in (flying self.old.group)) → EachIsAdmissible (batches_in (flying self.new.group)) }
-        ensures few { length (tickets_in (flying self.old.group)) ≤ 64 → length (tickets_in (flying self.new.group)) ≤ 64 }
+        ensures each { EachIsAdmissible (next_batches self.old.waiting.items) }
+        ensures few { next_size self.old.waiting.items ≤ MAX_WAITING }
     {
-        if self.group.is_some() || self.waiting.waiting() == 0 {
-            return;
-        }
         let mut formed = prepared;
         self.waiting.take_next(&mut formed);
         let Formed {
@@ -169,13 +144,33 @@ impl Queue {
             tickets,
             batches,
             sync,
+            next: first,
         });
+    }
+
+    /// The group in flight made this call, and goes on with this act.
+    pub(crate) fn move_on(&mut self, next: Act, call: Call) -> WriteStep
+        ensures step { result ≡ WriteStep.Moved self.old.job call }
+        ensures group { self.new.group ≡ with_next next self.old.group }
+        ensures waiting { self.new.waiting ≡ self.old.waiting }
+        ensures outcomes { self.new.outcomes ≡ self.old.outcomes }
+        ensures last_ticket { self.new.last_ticket ≡ self.old.last_ticket }
+        ensures job { self.new.job ≡ self.old.job }
+    {
+        if let Some(group) = &mut self.group {
+            group.next = next;
+        }
+        WriteStep::Moved {
+            job: self.job,
+            call,
+        }
     }
 
     /// The batches of the group in flight are handed out.
     pub(crate) fn take_batches(&mut self) -> Vec<Batch>
-        ensures batches { result.items ≡ batches_in (flying self.old.group) }
+        ensures batches { result.items ≡ batches_of_group (flying self.old.group) }
         ensures group { flying self.new.group ≡ without_batches (flying self.old.group) }
+        ensures next { next_in self.new.group ≡ next_in self.old.group }
         ensures waiting { self.new.waiting ≡ self.old.waiting }
         ensures outcomes { self.new.outcomes ≡ self.old.outcomes }
         ensures last_ticket { self.new.last_ticket ≡ self.old.last_ticket }
@@ -190,11 +185,11 @@ impl Queue {
 
     /// The group in flight is over: a call failed, and each of its batches has that outcome.
     pub(crate) fn settle(&mut self, outcome: Outcome)
-        requires { vec_len self.old.outcomes + length (tickets_in (flying self.old.group)) ≤ vec_capacity self.old.outcomes }
+        requires { vec_len self.old.outcomes + length (tickets_of_group (flying self.old.group)) ≤ vec_capacity self.old.outcomes }
         ensures waiting { self.new.waiting ≡ self.old.waiting }
         ensures group { self.new.group ≡ None }
-        ensures outcomes { self.new.outcomes.items ≡ self.old.outcomes.items ++ given outcome (tickets_in (flying self.old.group)) }
-        ensures len { vec_len self.new.outcomes ≡ vec_len self.old.outcomes + length (tickets_in (flying self.old.group)) }
+        ensures outcomes { self.new.outcomes.items ≡ self.old.outcomes.items ++ given outcome (tickets_of_group (flying self.old.group)) }
+        ensures len { vec_len self.new.outcomes ≡ vec_len self.old.outcomes + length (tickets_of_group (flying self.old.group)) }
         ensures last_ticket { self.new.last_ticket ≡ self.old.last_ticket }
         ensures job { self.new.job ≡ self.old.job }
         ensures room { vec_capacity self.new.outcomes ≡ vec_capacity self.old.outcomes }
@@ -206,12 +201,12 @@ impl Queue {
 
     /// The group in flight is over: its batches are published, numbered on behind a sequence.
     pub(crate) fn settle_done(&mut self, seq: u64, batches: &[Batch])
-        requires room { vec_len self.old.outcomes + length (tickets_in (flying self.old.group)) ≤ vec_capacity self.old.outcomes }
+        requires room { vec_len self.old.outcomes + length (tickets_of_group (flying self.old.group)) ≤ vec_capacity self.old.outcomes }
         requires numbers { seq + count_ops (ops_of batches.now) < 2 ^ 64 }
         ensures waiting { self.new.waiting ≡ self.old.waiting }
         ensures group { self.new.group ≡ None }
-        ensures outcomes { self.new.outcomes.items ≡ self.old.outcomes.items ++ done_each seq (tickets_in (flying self.old.group)) (ops_of batches.now) }
-        ensures len { vec_len self.new.outcomes ≡ vec_len self.old.outcomes + length (tickets_in (flying self.old.group)) }
+        ensures outcomes { self.new.outcomes.items ≡ self.old.outcomes.items ++ done_each seq (tickets_of_group (flying self.old.group)) (ops_of batches.now) }
+        ensures len { vec_len self.new.outcomes ≡ vec_len self.old.outcomes + length (tickets_of_group (flying self.old.group)) }
         ensures last_ticket { self.new.last_ticket ≡ self.old.last_ticket }
         ensures job { self.new.job ≡ self.old.job }
         ensures room { vec_capacity self.new.outcomes ≡ vec_capacity self.old.outcomes }
@@ -223,11 +218,11 @@ impl Queue {
 
     /// All that wait are turned away, since this failure stands.
     pub(crate) fn turn_away(&mut self, failure: Failure)
-        requires { vec_len self.old.outcomes + length self.old.waiting ≤ vec_capacity self.old.outcomes }
-        ensures waiting { self.new.waiting ≡ [] }
+        requires { vec_len self.old.outcomes + length self.old.waiting.items ≤ vec_capacity self.old.outcomes }
+        ensures waiting { self.new.waiting.items ≡ [] }
         ensures group { self.new.group ≡ self.old.group }
-        ensures outcomes { self.new.outcomes.items ≡ self.old.outcomes.items ++ given (Outcome.Turned failure) (tickets_of self.old.waiting) }
-        ensures len { vec_len self.new.outcomes ≡ vec_len self.old.outcomes + length self.old.waiting }
+        ensures outcomes { self.new.outcomes.items ≡ self.old.outcomes.items ++ given (Outcome.Turned failure) (tickets_of self.old.waiting.items) }
+        ensures len { vec_len self.new.outcomes ≡ vec_len self.old.outcomes + length self.old.waiting.items }
         ensures last_ticket { self.new.last_ticket ≡ self.old.last_ticket }
         ensures job { self.new.job ≡ self.old.job }
         ensures room { vec_capacity self.new.outcomes ≡ vec_capacity self.old.outcomes }
@@ -242,7 +237,7 @@ impl Queue {
 
     /// What is told of a ticket. An outcome is handed out once.
     pub(crate) fn take_outcome(&mut self, ticket: u64) -> Outcome
-        ensures outcome { result ≡ outcome_told ticket self.old.outcomes.items (flying self.old.group) self.old.waiting }
+        ensures outcome { result ≡ outcome_told ticket self.old.outcomes.items (flying self.old.group) self.old.waiting.items }
         ensures waiting { self.new.waiting ≡ self.old.waiting }
         ensures group { self.new.group ≡ self.old.group }
         ensures outcomes { self.new.outcomes.items ≡ filter (λ entry. not (entry.0 == ticket)) self.old.outcomes.items }
@@ -267,7 +262,7 @@ impl Queue {
 
     // Whether the ticket's batch waits, or its group is in flight.
     fn is_on_its_way(&self, ticket: u64) -> bool
-        ensures { result ≡ on_its_way ticket (flying self.now.group) self.now.waiting }
+        ensures { result ≡ on_its_way ticket (flying self.now.group) self.now.waiting.items }
     {
         let in_flight = match &self.group {
             Some(group) => is_among(&group.tickets, ticket),
@@ -332,8 +327,8 @@ fn seq_behind(seq: u64, batches: &[Batch], index: usize) -> u64
     }
 }
 
-fn drop_all(waiting: &mut Group)
-    ensures { waiting.new ≡ [] }
+fn drop_all(waiting: &mut WaitQueue)
+    ensures { waiting.new.items ≡ [] }
 {
     'dropping: while waiting.pop().is_some() {}
 }

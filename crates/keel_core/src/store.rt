@@ -10,14 +10,14 @@ ghost use Rattle.keel_machine.specs.Turns.{Admitting, Getting, Scanning, TakingO
 ghost use Rattle.keel_core.specs.Trails.{shown};
 ghost use Rattle.keel_core.specs.Views.{Turns, point_in, calls_left, with_device};
 
-use crate::log::OwnLog;
+use crate::log::{OwnLog, log_failure};
 use crate::queue::Queue;
 use crate::scanning::rows_between;
 use crate::sizes::size_refusal;
 use crate::trail::Trail;
-use keel_base::{Batch, Bytes, Counter, Failure, Kind, Listing, OutOfMemory};
+use keel_base::{Batch, Bytes, Counter, Fault, Kind, Listing, OutOfMemory};
 use keel_disk::{Device, Disk, DiskError, Rule};
-use keel_group::{Joined, MAX_WAITING};
+use keel_group::MAX_WAITING;
 use keel_machine::{Admit, Got, Outcome, Scanned};
 use keel_mem::Mem;
 use std::alloc::Global;
@@ -34,15 +34,19 @@ pub struct Core<D: Disk> {
     // the rows of the published batches
     pub(crate) mem: Mem,
     pub(crate) queue: Queue,
-    pub(crate) log: OwnLog,
+    pub(crate) log: Option<OwnLog>,
     // the sequence of the last published op, and of the last one that was handed to the log
     pub(crate) last_seq: u64,
     pub(crate) handed_seq: u64,
     pub(crate) next_file: u64,
-    pub(crate) standing: Option<Failure>,
+    // how a call of a group failed, from when on nothing is written
+    pub(crate) failed: Option<Fault>,
 }
 
 impl<D: Disk> Model for Core<D> {
+    ghost use Rattle.std.specs.Coded.{codes, coded_list, coded_ℕ};
+    ghost use Rattle.std.specs.FinMap as map;
+    ghost use Rattle.keel_base.specs.Keys.{key_cmp};
     ghost use Rattle.keel_core.specs.Orders.{IsInOrder};
     ghost use Rattle.keel_core.specs.Flights.{flying};
     ghost use Rattle.keel_core.specs.Trails.{shown};
@@ -50,20 +54,23 @@ impl<D: Disk> Model for Core<D> {
 
     ghost Value = { CoreView };
 
+    // The point where the trail starts has a finite map, whose code isn't found.
+    ghost coded = { Prim.hlevel (codes, map.code {R = key_cmp} (coded_list coded_ℕ) (coded_list coded_ℕ)) };
+
     ghost view = { λ c. record {
       device = D.seen c.disk;
       trail = shown c.trail;
-      stage = c.log;
-      waiting = c.queue.waiting;
+      log = c.log;
+      waiting = c.queue.waiting.items;
       group = flying c.queue.group;
       outcomes = c.queue.outcomes.items;
       last_ticket = c.queue.last_ticket;
       job = c.queue.job;
-      standing = c.standing;
+      failed = c.failed;
       next_file = c.next_file;
     } };
 
-    ghost invariant = { λ c. IsInOrder c.mem c.trail c.queue c.log c.last_seq c.handed_seq c.next_file };
+    ghost invariant = { λ c. IsInOrder c.mem c.trail c.queue c.log c.failed c.last_seq c.handed_seq c.next_file };
 }
 
 impl<D: Disk> Core<D> {
@@ -88,8 +95,8 @@ impl<D: Disk> Core<D> {
         if let Some(refusal) = size_refusal(&batch) {
             return refusal;
         }
-        match self.standing {
-            Some(failure) => return Admit::Stopped(failure),
+        match self.failed {
+            Some(fault) => return Admit::Stopped(log_failure(fault)),
             None => {}
         }
         let ops = batch.ops.len() as u64;
@@ -104,7 +111,10 @@ impl<D: Disk> Core<D> {
             return Admit::QueueFull { waiting };
         }
         let held = self.queue.held() + waiting as usize;
-        if self.trail.reserve(held + 1).is_err() || self.queue.reserve().is_err() {
+        if self.trail.reserve(held + 1).is_err() {
+            return Admit::OutOfMemory;
+        }
+        if self.queue.reserve().is_err() {
             return Admit::OutOfMemory;
         }
         // Room in the memtable adds up, so it is the last that is taken: a refused batch has none.
@@ -112,14 +122,9 @@ impl<D: Disk> Core<D> {
             return Admit::OutOfMemory;
         }
         let ticket = self.queue.last_ticket + 1;
-        match self.queue.waiting.join(ticket, batch) {
-            Joined::Queued => {
-                self.queue.last_ticket = ticket;
-                Admit::Queued { ticket }
-            }
-            Joined::QueueFull { waiting } => Admit::QueueFull { waiting },
-            Joined::OutOfMemory => Admit::OutOfMemory,
-        }
+        self.queue.waiting.join_reserved(ticket, batch);
+        self.queue.last_ticket = ticket;
+        Admit::Queued { ticket }
     }
 
     /// What became of a ticket. An outcome is handed out once.

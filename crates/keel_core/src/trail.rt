@@ -1,5 +1,5 @@
 // The batches that the opening read, and those since.
-ghost use Rattle.std.specs.Prelude.{◌≡◌, ◌+◌, ◌≤◌, ◌++◌, length, vec_len, vec_capacity, OnOk};
+ghost use Rattle.std.specs.Prelude.{◌≡◌, ◌+◌, ◌≤◌, [], ◌++◌, length, vec_len, vec_capacity, OnOk};
 
 use keel_base::{Batch, Sequence};
 use keel_batch::Numbered;
@@ -17,7 +17,9 @@ pub struct Trail {
 }
 
 impl Trail {
-    ghost use Rattle.keel_core.specs.Trails.{TrailShown, shown, handed, published as all_published, IsEmptyTrail};
+    ghost use Rattle.keel_machine.specs.Admission.{ops_of};
+    ghost use Rattle.keel_machine.specs.States.{handed, published as all_published};
+    ghost use Rattle.keel_core.specs.Trails.{shown, read_in, log_in, limbo_in, IsEmptyTrail};
 
     pub(crate) fn new(alloc: Global, read: Sequence<Numbered>) -> Trail
         ensures { IsEmptyTrail read result }
@@ -32,21 +34,21 @@ impl Trail {
 
     /// The batches that the opening read, in their order.
     pub fn read(&self) -> &[Numbered]
-        ensures { result.now ≡ (shown self.now).read }
+        ensures { result.now ≡ read_in self.now }
     {
         self.read.as_slice()
     }
 
     /// The batches that were published since, in their order.
     pub fn log(&self) -> &[Batch]
-        ensures { result.now ≡ (shown self.now).log }
+        ensures { result.now ≡ log_in self.now }
     {
         &self.batches.as_slice()[..self.published]
     }
 
     /// The batches that were handed to the log and aren't published.
     pub fn limbo(&self) -> &[Batch]
-        ensures { result.now ≡ (shown self.now).limbo }
+        ensures { result.now ≡ limbo_in self.now }
     {
         &self.batches.as_slice()[self.published..]
     }
@@ -61,6 +63,7 @@ impl Trail {
     /// Takes the memory for so many batches more.
     pub(crate) fn reserve(&mut self, count: usize) -> Result<(), AllocError>
         ensures same { shown self.new ≡ shown self.old }
+        ensures limbo { limbo_in self.new ≡ limbo_in self.old }
         ensures count { vec_len self.new.batches ≡ vec_len self.old.batches }
         ensures room { vec_capacity self.old.batches ≤ vec_capacity self.new.batches }
         ensures ok { OnOk result (vec_len self.new.batches + count ≤ vec_capacity self.new.batches) }
@@ -71,7 +74,8 @@ impl Trail {
     /// Batches were handed to the log.
     pub(crate) fn hand(&mut self, batches: Vec<Batch>)
         requires { vec_len self.old.batches + length batches.items ≤ vec_capacity self.old.batches }
-        ensures shown { shown self.new ≡ handed batches.items (shown self.old) }
+        ensures shown { shown self.new ≡ handed (ops_of batches.items) (shown self.old) }
+        ensures limbo { limbo_in self.new ≡ limbo_in self.old ++ batches.items }
         ensures count { vec_len self.new.batches ≡ vec_len self.old.batches + length batches.items }
         ensures room { vec_capacity self.old.batches ≤ vec_capacity self.new.batches }
     {
@@ -82,6 +86,7 @@ impl Trail {
     /// What is in limbo is published. Behind a sync none of it must be lost.
     pub(crate) fn publish(&mut self, sync: bool)
         ensures shown { shown self.new ≡ all_published sync (shown self.old) }
+        ensures limbo { limbo_in self.new ≡ [] }
         ensures count { vec_len self.new.batches ≡ vec_len self.old.batches }
         ensures room { vec_capacity self.new.batches ≡ vec_capacity self.old.batches }
     {

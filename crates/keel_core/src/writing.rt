@@ -1,25 +1,42 @@
 // The write step: groups go to the log, one call of the device a step, and are published.
-ghost use Rattle.std.specs.Prelude.{◌≡◌, ◌≢◌, ◌+◌, ◌≤◌, ◌^◌, [], length, IfNone, IfSome, IfOk};
+//
+//   no group is in flight          a group is in flight, by its next act
+//
+//   no log   ----- create -------> SyncDirectory
+//                                    | sync_dir
+//                                    v
+//                                  AddRecords
+//                                    | append
+//   a log    ----- append -----------+-----------> SyncLog      where a batch asks for a sync
+//                                    |                | sync
+//                                    v                v
+//   no group <------------------ published <----------+
+//
+// A call that fails ends its group, unpublished, and from then on nothing is written. The group is formed once its
+// first call was made, since without memory all goes on waiting.
+ghost use Rattle.std.specs.Prelude.{◌≡◌, ◌+◌, ◌<◌, ◌≤◌, ◌^◌, ◌&&◌, nat_le, None, IsNone, IsSome, IfNone, IfSome, IfOk};
+ghost use Rattle.keel_batch.specs.Batches.{payloads_behind};
 ghost use Rattle.keel_frag.specs.Writing.{records_bytes};
-ghost use Rattle.keel_group.specs.Forming.{EachIsAdmissible};
+ghost use Rattle.keel_group.specs.Forming.{EachIsAdmissible, HasRoomFor, next_size};
 ghost use Rattle.keel_machine.specs.Admission.{count_ops, ops_of};
+ghost use Rattle.keel_machine.specs.Tests.{when};
 ghost use Rattle.keel_machine.specs.Turns.{Writing};
-ghost use Rattle.keel_machine.specs.Writing.{payloads_from};
 ghost use Rattle.keel_machine.specs.WritingAfter.{failure_of};
-ghost use Rattle.keel_core.specs.declared.log.OwnLog.TheVariants as stage;
-ghost use Rattle.keel_core.specs.Orders.{IsReady};
-ghost use Rattle.keel_core.specs.Queues.{batches_next, is_synced, tickets_in};
-ghost use Rattle.keel_core.specs.Steps.{file_rest, next_bytes, NumberIs, IsGone, handed_over, all_published, rested, stopped};
-ghost use Rattle.keel_core.specs.Views.{Turns, MakesCall, ComesNearer, CanGoOn, IsRest, Finds, rest_of, point_in};
+ghost use Rattle.keel_core.specs.Orders.{HasLog};
+ghost use Rattle.keel_core.specs.Queues.{goes_on};
+ghost use Rattle.keel_core.specs.Steps.{Makes, IsNext, NextIs, formed, handed_over, all_published, published_step, done, done_step, tried, rested, stopped};
+ghost use Rattle.keel_core.specs.Views.{Turns, MakesCall, ComesNearer, CanGoOn, IsRest, Finds, draws_next, rest_of};
 
-use crate::log::OwnLog;
+use crate::flight::Act;
+use crate::log::{OwnLog, log_failure};
 use crate::placing::place;
 use crate::queue::count_ops;
 use crate::store::{Core, LAST_NUMBER};
-use keel_base::{Batch, Bytes, Call, Counter, Failure, Fault, FileName, OutOfMemory, Reason};
+use keel_base::{Batch, Bytes, Call, Counter, Fault, FileName, OutOfMemory};
 use keel_batch::encode;
 use keel_disk::{Disk, DiskError};
 use keel_frag::write_record;
+use keel_group::Formed;
 use keel_machine::{Outcome, WriteStep};
 use std::alloc::Global;
 
@@ -31,8 +48,8 @@ impl<D: Disk> Core<D> {
         ensures nearer { ComesNearer self.old result self.new }
     {
         match self.rest(held) {
-            None => self.make_call(alloc),
             Some(rest) => self.rest_with(rest),
+            None => self.act(alloc),
         }
     }
 
@@ -69,8 +86,11 @@ impl<D: Disk> Core<D> {
         if batches == 0 {
             return Some(WriteStep::Idle);
         }
-        if let Some(failure) = self.standing {
-            return Some(WriteStep::Turned { batches, failure });
+        if let Some(fault) = self.failed {
+            return Some(WriteStep::Turned {
+                batches,
+                failure: log_failure(fault),
+            });
         }
         if self.queue.job >= LAST_NUMBER {
             return Some(WriteStep::Spent(Counter::JobNumber));
@@ -80,152 +100,200 @@ impl<D: Disk> Core<D> {
 
     // A log that is to be made needs a number below the end.
     fn file_rest(&self) -> Option<WriteStep>
-        ensures { result ≡ file_rest self.now.stage self.now.next_file }
+        ensures { result ≡ when (draws_next self.now.log self.now.group && nat_le (2 ^ 56) self.now.next_file) (WriteStep.Spent Counter.FileNumber) }
     {
-        match self.log {
-            OwnLog::Absent if self.next_file >= LAST_NUMBER => {
+        match self.next_act() {
+            Act::MakeLog if self.next_file >= LAST_NUMBER => {
                 Some(WriteStep::Spent(Counter::FileNumber))
             }
             _ => None,
         }
     }
 
+    // The next act of the group in flight, or the first one of the next group.
+    fn next_act(&self) -> Act
+        ensures next { NextIs result self.now.group self.now.log }
+        ensures log { HasLog result self.now.log }
+    {
+        match &self.queue.group {
+            Some(flight) => flight.next,
+            None => match self.log {
+                Some(_) => Act::AddRecords,
+                None => Act::MakeLog,
+            },
+        }
+    }
+
     // Makes the next call.
-    fn make_call(&mut self, alloc: Global) -> WriteStep
+    fn act(&mut self, alloc: Global) -> WriteStep
         requires { CanGoOn self.old }
         ensures turn { MakesCall self.old result self.new }
         ensures nearer { ComesNearer self.old result self.new }
     {
-        match self.log {
-            OwnLog::Absent => self.make_log(alloc),
-            OwnLog::Created { number } => self.sync_directory(alloc, number),
-            OwnLog::Ready { number, size } => {
-                if self.queue.next_batches().is_empty() {
-                    self.sync_log(alloc, number)
-                } else {
-                    self.add_records(alloc, number, size)
-                }
-            }
+        if self.queue.group.is_some() {
+            self.go_on(alloc)
+        } else {
+            self.start(alloc)
         }
     }
 
-    fn make_log(&mut self, alloc: Global) -> WriteStep
-        requires stage { self.old.stage ≡ stage.Absent }
+    // The group in flight makes its next call.
+    fn go_on(&mut self, alloc: Global) -> WriteStep
         requires can { CanGoOn self.old }
+        requires some { IsSome self.old.group }
         ensures turn { MakesCall self.old result self.new }
         ensures nearer { ComesNearer self.old result self.new }
     {
-        let Ok(prepared) = self.queue.prepare() else {
+        let act = self.next_act();
+        match self.make_call(alloc, act) {
+            Ok(()) => self.done(act),
+            Err(DiskError::Fault(fault)) => self.give_up(act, fault),
+            Err(DiskError::OutOfMemory) => WriteStep::OutOfMemory,
+        }
+    }
+
+    // The next group makes its first call, and is then in flight.
+    fn start(&mut self, alloc: Global) -> WriteStep
+        requires can { CanGoOn self.old }
+        requires none { IsNone self.old.group }
+        ensures turn { MakesCall self.old result self.new }
+        ensures nearer { ComesNearer self.old result self.new }
+    {
+        let Ok(prepared) = self.queue.waiting.prepare() else {
             return WriteStep::OutOfMemory;
         };
-        let number = self.next_file;
-        match self.disk.create(alloc, FileName::Log(number)) {
+        let act = self.next_act();
+        match self.make_call(alloc, act) {
             Ok(()) => {
-                self.queue.enter(prepared);
-                self.next_file = number + 1;
-                self.log = OwnLog::Created { number };
-                WriteStep::Moved {
-                    job: self.queue.job,
-                    call: Call::Create,
-                }
+                self.form(prepared, act);
+                self.done(act)
             }
             Err(DiskError::Fault(fault)) => {
-                self.queue.enter(prepared);
-                self.next_file = number + 1;
-                self.fail(fault)
+                self.form(prepared, act);
+                self.give_up(act, fault)
             }
             Err(DiskError::OutOfMemory) => WriteStep::OutOfMemory,
         }
     }
 
-    fn sync_directory(&mut self, alloc: Global, number: u64) -> WriteStep
-        requires stage { self.old.stage ≡ stage.Created number }
-        requires can { CanGoOn self.old }
-        ensures turn { MakesCall self.old result self.new }
-        ensures nearer { ComesNearer self.old result self.new }
+    // Makes the call of an act.
+    fn make_call(&mut self, alloc: Global, act: Act) -> Result<(), DiskError>
+        requires log { HasLog act self.old.log }
+        requires file { act ≡ Act.MakeLog → self.old.next_file < 2 ^ 56 }
+        ensures { Makes act self.old result self.new }
     {
-        match self.disk.sync_dir(alloc) {
-            Ok(()) => {
-                self.log = OwnLog::Ready { number, size: 0 };
-                WriteStep::Moved {
-                    job: self.queue.job,
-                    call: Call::SyncDir,
-                }
+        match act {
+            Act::MakeLog => self.disk.create(alloc, FileName::Log(self.next_file)),
+            Act::SyncDirectory { .. } => self.disk.sync_dir(alloc),
+            Act::AddRecords => self.append_records(alloc),
+            Act::SyncLog => {
+                let log = self.log.unwrap();
+                self.disk.sync(alloc, FileName::Log(log.number))
             }
-            Err(DiskError::Fault(fault)) => self.fail(fault),
-            Err(DiskError::OutOfMemory) => WriteStep::OutOfMemory,
         }
     }
 
-    fn add_records(&mut self, alloc: Global, number: u64, size: u64) -> WriteStep
-        requires stage { self.old.stage ≡ stage.Ready number size }
-        requires can { CanGoOn self.old }
-        requires some { batches_next self.old.waiting self.old.group ≢ [] }
-        ensures turn { MakesCall self.old result self.new }
-        ensures nearer { ComesNearer self.old result self.new }
+    // Appends a record for each batch of the group.
+    fn append_records(&mut self, alloc: Global) -> Result<(), DiskError>
+        requires { HasLog Act.AddRecords self.old.log }
+        ensures { Makes Act.AddRecords self.old result self.new }
     {
-        let Ok(prepared) = self.queue.prepare() else {
-            return WriteStep::OutOfMemory;
+        let log = self.log.unwrap();
+        let Ok(bytes) = records_of(alloc, log.size, self.last_seq, self.queue.next_batches()) else {
+            return Err(DiskError::OutOfMemory);
         };
-        let Ok(bytes) = self.record_bytes(alloc, size) else {
-            return WriteStep::OutOfMemory;
+        let Some(size) = log.size.checked_add(bytes.len() as u64) else {
+            return Err(DiskError::OutOfMemory);
         };
-        let Some(behind) = size.checked_add(bytes.len() as u64) else {
-            return WriteStep::OutOfMemory;
-        };
-        match self
+        let answer = self
             .disk
-            .append(alloc, FileName::Log(number), bytes.as_slice())
-        {
-            Ok(()) => {
-                self.log = OwnLog::Ready {
-                    number,
-                    size: behind,
-                };
-                self.queue.enter(prepared);
+            .append(alloc, FileName::Log(log.number), bytes.as_slice());
+        if answer.is_ok() {
+            self.log = Some(OwnLog {
+                number: log.number,
+                size,
+            });
+        }
+        answer
+    }
+
+    // The next group of those that wait is in flight.
+    fn form(&mut self, prepared: Formed, first: Act)
+        requires none { IsNone self.old.group }
+        requires room { HasRoomFor (next_size self.old.waiting) prepared }
+        requires calm { self.old.failed ≡ None }
+        requires job { self.old.job < 2 ^ 56 }
+        requires log { HasLog first self.old.log }
+        ensures { self.new ≡ formed first self.old }
+    {
+        self.queue.form(prepared, first);
+    }
+
+    // What an act leaves whose call was answered Ok.
+    fn done(&mut self, act: Act) -> WriteStep
+        requires next { IsNext act self.old.group }
+        requires file { act ≡ Act.MakeLog → self.old.next_file < 2 ^ 56 }
+        ensures view { self.new ≡ done act self.old }
+        ensures step { result ≡ done_step act self.old }
+    {
+        match act {
+            Act::MakeLog => {
+                let log = self.next_file;
+                self.next_file = log + 1;
+                self.queue.move_on(Act::SyncDirectory { log }, Call::Create)
+            }
+            Act::SyncDirectory { log } => {
+                self.log = Some(OwnLog {
+                    number: log,
+                    size: 0,
+                });
+                self.queue.move_on(Act::AddRecords, Call::SyncDir)
+            }
+            Act::AddRecords => {
                 if self.hand_over() {
-                    WriteStep::Moved {
-                        job: self.queue.job,
-                        call: Call::Append,
-                    }
+                    self.queue.move_on(Act::SyncLog, Call::Append)
                 } else {
                     self.publish(false)
                 }
             }
-            Err(DiskError::Fault(fault)) => {
-                self.queue.enter(prepared);
-                let _ = self.hand_over();
-                self.fail(fault)
-            }
-            Err(DiskError::OutOfMemory) => WriteStep::OutOfMemory,
+            Act::SyncLog => self.publish(true),
         }
     }
 
-    // The bytes that the next group appends: a record for each batch.
-    fn record_bytes(&self, alloc: Global, size: u64) -> Result<Bytes, OutOfMemory>
-        ensures { IfOk result (λ bytes. bytes ≡ next_bytes self.now size) }
+    // What an act leaves whose call failed: its group is over, and from now on nothing is written.
+    fn give_up(&mut self, act: Act, fault: Fault) -> WriteStep
+        requires next { IsNext act self.old.group }
+        requires file { act ≡ Act.MakeLog → self.old.next_file < 2 ^ 56 }
+        ensures view { self.new ≡ stopped fault (tried act self.old) }
+        ensures step { result ≡ WriteStep.Failed (failure_of fault) }
     {
-        records_of(alloc, size, self.last_seq + 1, self.queue.next_batches())
+        self.tried(act);
+        let failure = log_failure(fault);
+        self.queue.settle(Outcome::Failed(failure));
+        self.failed = Some(fault);
+        WriteStep::Failed(failure)
     }
 
-    fn sync_log(&mut self, alloc: Global, number: u64) -> WriteStep
-        requires stage { NumberIs number self.old.stage }
-        requires gone { IsGone self.old.group }
-        ensures turn { MakesCall self.old result self.new }
-        ensures nearer { ComesNearer self.old result self.new }
+    // A number is used up though the call failed, and batches may be found in the log.
+    fn tried(&mut self, act: Act)
+        requires next { IsNext act self.old.group }
+        requires file { act ≡ Act.MakeLog → self.old.next_file < 2 ^ 56 }
+        ensures { self.new ≡ tried act self.old }
     {
-        match self.disk.sync(alloc, FileName::Log(number)) {
-            Ok(()) => self.publish(true),
-            Err(DiskError::Fault(fault)) => self.fail(fault),
-            Err(DiskError::OutOfMemory) => WriteStep::OutOfMemory,
+        match act {
+            Act::MakeLog => self.next_file += 1,
+            Act::AddRecords => {
+                let _ = self.hand_over();
+            }
+            Act::SyncDirectory { .. } | Act::SyncLog => {}
         }
     }
 
     // The batches of the group in flight were handed to the log. Says whether it is to be synced.
     fn hand_over(&mut self) -> bool
-        requires { IsReady self.old.stage }
+        requires { IsNext Act.AddRecords self.old.group }
         ensures view { self.new ≡ handed_over self.old }
-        ensures sync { result ≡ is_synced self.old.group }
+        ensures sync { result ≡ goes_on self.old.group }
     {
         let sync = self.queue.is_synced();
         let batches = self.queue.take_batches();
@@ -236,9 +304,8 @@ impl<D: Disk> Core<D> {
 
     // What was handed over is published, and the group is over.
     fn publish(&mut self, sync: bool) -> WriteStep
-        requires { IsReady self.old.stage }
         ensures view { self.new ≡ all_published sync self.old }
-        ensures step { result ≡ WriteStep.Done self.old.job (point_in self.new).seq (length (tickets_in self.old.group)) }
+        ensures step { result ≡ published_step sync self.old }
     {
         let batches = self.queue.in_flight() as u32;
         place(&mut self.mem, self.last_seq + 1, self.trail.limbo());
@@ -251,38 +318,22 @@ impl<D: Disk> Core<D> {
             batches,
         }
     }
-
-    // A call of the group in flight failed, and from now on nothing is written.
-    fn fail(&mut self, fault: Fault) -> WriteStep
-        ensures view { self.new ≡ stopped (failure_of fault) self.old }
-        ensures step { result ≡ WriteStep.Failed (failure_of fault) }
-    {
-        let failure = Failure {
-            reason: Reason::Wal,
-            fault,
-        };
-        self.log = self.log.given_up();
-        self.queue.settle(Outcome::Failed(failure));
-        self.standing = self.standing.or(Some(failure));
-        WriteStep::Failed(failure)
-    }
 }
 
-// The records of batches that are numbered from a sequence on, behind so many bytes of a log.
-fn records_of(alloc: Global, size: u64, first: u64, batches: &[Batch]) -> Result<Bytes, OutOfMemory>
+// The records of batches that are numbered on behind an op, behind so many bytes of a log.
+fn records_of(alloc: Global, size: u64, last: u64, batches: &[Batch]) -> Result<Bytes, OutOfMemory>
     requires each { EachIsAdmissible batches.now }
-    requires numbers { first + count_ops (ops_of batches.now) ≤ 2 ^ 56 + 1 }
-    requires some { 1 ≤ first }
-    ensures { IfOk result (λ bytes. bytes ≡ records_bytes size (payloads_from first batches.now)) }
+    requires numbers { last + count_ops (ops_of batches.now) ≤ 2 ^ 56 }
+    ensures { IfOk result (λ bytes. bytes ≡ records_bytes size (payloads_behind last (ops_of batches.now))) }
 {
     let mut bytes = Bytes::new(alloc);
-    let mut seq = first;
+    let mut seq = last;
     for batch in batches {
-        let payload = encode(alloc, seq, batch)?;
-        let Some(place) = size.checked_add(bytes.len() as u64) else {
+        let payload = encode(alloc, seq + 1, batch)?;
+        let Some(offset) = size.checked_add(bytes.len() as u64) else {
             return Err(OutOfMemory);
         };
-        let record = write_record(alloc, place, payload.as_slice())?;
+        let record = write_record(alloc, offset, payload.as_slice())?;
         bytes.extend(record.as_slice())?;
         seq += batch.ops.len() as u64;
     }

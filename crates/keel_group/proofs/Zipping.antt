@@ -1,6 +1,13 @@
 -- Lists of tickets and of batches as one queue.
-use Rattle.std.proofs.Common.{◌≡◌, ℕ, zero, suc, List, [], ◌∷◌, ◌++◌, length, drop, refl, ap, sym, ◌∙◌, arith}
+use Rattle.std.proofs.Common.{◌≡◌, ℕ, zero, suc, ◌<◌, List, [], ◌∷◌, ◌++◌, length, drop, refl, ap, sym, subst, ◌∙◌, arith}
+use Rattle.std.proofs.lemmas.List.{length-append}
+use Rattle.std.proofs.lemmas.List.Elements.{All-append, All-cons, All-nil}
 use Rattle.keel_base.specs.declared.op.Batch.{Batch}
+use Rattle.keel_base.specs.Reserving.{ReservedShown}
+use Rattle.keel_base.specs.Weight.{AreAdmissible}
+use Rattle.keel_group.specs.declared.formed.TheConstants.{MAX_WAITING}
+use Rattle.keel_group.specs.Forming.{EachIsAdmissible}
+use Rattle.keel_group.specs.Keeping.{IsKeptQueue}
 use Rattle.keel_group.specs.Queue.{Ticketed, ticketed, zipped, tickets_of, batches_of}
 
 pub tickets_of-zipped : (ts : List ℕ) (bs : List Batch) → length ts ≡ length bs → tickets_of (zipped ts bs) ≡ ts
@@ -33,6 +40,9 @@ drop-zipped (suc n) (t ∷ ts) (b ∷ bs) same = drop-zipped n ts bs (omega arit
 
 -- what a queue shows whose view this is
 
+pub same_items : (a b : ReservedShown Ticketed) → a ≡ b → a.items ≡ b.items
+same_items a b same = ap (λ (v : ReservedShown Ticketed). v.items) same
+
 pub shown_tickets : (ts : List ℕ) (bs : List Batch) (queue : List Ticketed) → zipped ts bs ≡ queue → length ts ≡ length bs → tickets_of queue ≡ ts
 shown_tickets ts bs queue view same = ap tickets_of (sym view) ∙ tickets_of-zipped ts bs same
 
@@ -53,3 +63,15 @@ pushed_view ts ts' bs bs' queue t b view same e f =
 pub dropped_view : (n : ℕ) (ts ts' : List ℕ) (bs bs' : List Batch) (queue : List Ticketed) → zipped ts bs ≡ queue → length ts ≡ length bs → ts' ≡ drop n ts → bs' ≡ drop n bs → zipped ts' bs' ≡ drop n queue
 dropped_view n ts ts' bs bs' queue view same e f =
     kept_view (drop n ts) ts' (drop n bs) bs' (drop n (zipped ts bs)) (sym (drop-zipped n ts bs same)) e f ∙ ap (drop n) view
+
+-- a queue that took in one batch more is as every queue is
+pub pushed_kept : (ts ts' : List ℕ) (bs bs' : List Batch) (t : ℕ) (b : Batch) → IsKeptQueue ts bs → AreAdmissible b.ops → length bs < MAX_WAITING → ts' ≡ ts ++ t ∷ [] → bs' ≡ bs ++ b ∷ []
+    → IsKeptQueue ts' bs'
+pushed_kept ts ts' bs bs' t b kept ok few e f =
+    let one_ticket = ap length e ∙ length-append ts (t ∷ []) in
+    let one_batch = ap length f ∙ length-append bs (b ∷ []) in
+    record {
+      as_many = omega (arith, one_ticket, one_batch, kept.as_many);
+      few = omega (arith, one_batch, few);
+      each = subst EachIsAdmissible (sym f) (All-append (λ (a : Batch). AreAdmissible a.ops) bs (b ∷ []) kept.each (All-cons (λ (a : Batch). AreAdmissible a.ops) b [] ok (All-nil _)));
+    }

@@ -1,4 +1,4 @@
-use crate::{Group, Joined};
+use crate::{Joined, WaitQueue};
 use keel_base::{Batch, Bytes, Op, Ops, OutOfMemory};
 use std::alloc::Global;
 use std::test::Fail;
@@ -17,7 +17,7 @@ fn puts(alloc: Global, count: usize, size: usize, sync: bool) -> Result<Batch, O
 }
 
 /// Joins a batch of one put or two whose value has so many bytes.
-fn joined(queue: &mut Group, ticket: u64, batch: Batch) -> Joined {
+fn joined(queue: &mut WaitQueue, ticket: u64, batch: Batch) -> Joined {
     match batch.ops.as_slice() {
         [Op::Put { key, value }] if key.len() == 1 && value.len() <= 65536 => queue.join(
             ticket, batch,
@@ -29,7 +29,7 @@ fn joined(queue: &mut Group, ticket: u64, batch: Batch) -> Joined {
 #[test]
 fn the_queue_takes_64(rt: HostRuntime) -> Result<(), Fail> {
     let alloc = rt.alloc();
-    let mut queue = Group::new(alloc);
+    let mut queue = WaitQueue::new(alloc);
     for ticket in 1..65 {
         assert!(rt; queue.reserve().is_ok());
         let batch = puts(alloc, 1, 1, ticket == 60).ok().ok_or("memory")?;
@@ -57,7 +57,7 @@ fn the_queue_takes_64(rt: HostRuntime) -> Result<(), Fail> {
 #[test]
 fn heavy_batches_are_split_by_weight(rt: HostRuntime) -> Result<(), Fail> {
     let alloc = rt.alloc();
-    let mut queue = Group::new(alloc);
+    let mut queue = WaitQueue::new(alloc);
     // Each weighs 65553, so that 15 weigh less than 1048576 and 16 more.
     for ticket in 1..18 {
         let batch = puts(alloc, 1, 65536, false).ok().ok_or("memory")?;
@@ -68,5 +68,19 @@ fn heavy_batches_are_split_by_weight(rt: HostRuntime) -> Result<(), Fail> {
     assert_eq!(rt; formed.batches.len(), 15);
     assert!(rt; !formed.sync);
     assert_eq!(rt; queue.tickets(), [16, 17].as_slice());
+    Ok(())
+}
+
+#[test]
+fn room_is_taken_first(rt: HostRuntime) -> Result<(), Fail> {
+    let alloc = rt.alloc();
+    let mut queue = WaitQueue::new(alloc);
+    let batch = puts(alloc, 1, 1, true).ok().ok_or("memory")?;
+    assert!(rt; queue.reserve().is_ok());
+    if let [Op::Put { key, value }] = batch.ops.as_slice() {
+        assert!(rt; key.len() == 1 && value.len() == 1);
+        queue.join_reserved(9, batch);
+    }
+    assert_eq!(rt; queue.tickets(), [9].as_slice());
     Ok(())
 }

@@ -18,7 +18,7 @@ loop-batch-preserved c =
     let before = c.loop-batch.mem.rows in
     let next = next_item batches i c.batch-item.result c.loop-batch-test.true c.batch-item.is in
     let counts = ap (λ l. count_ops (ops_of l)) next in
-    let bytes = ap bytes_needed next in
+    let bytes = ap (λ l. bytes_needed (ops_of l)) next in
     let put = c.put_reserved.ensures in
     record {
       rows = (λ k. put.rows k ++ batch_rows (at + c.len.ensures k) (ops_of rest))

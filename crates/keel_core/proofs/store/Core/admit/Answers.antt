@@ -13,14 +13,12 @@ returns-in-Some g c = record {
   turn = refused_goes c.args.self.now c.args.batch c.in-Some.refusal (sym c.size_refusal.ensures ∙ c.in-Some.is);
 }
 
-pub join-requires : goal.join-requires
-join-requires g c = admissible c.args.batch (sym c.size_refusal.ensures ∙ c.in_default.is)
-
 pub returns-then-self-ops_before-gt-LAST_NUMBER : goal.returns-then-self-ops_before-gt-LAST_NUMBER
 returns-then-self-ops_before-gt-LAST_NUMBER g c =
     let w = c.self.inside in
     record {
-      turn = rw (← c.self.view_is) (seq_spent _ c.args.batch w.last_seq w.handed_seq (sym c.size_refusal.ensures ∙ c.in_default.is) c.in-None.is c.self.invariant.seq c.self.invariant.handed
+      turn = rw (← c.self.view_is) (seq_spent _ c.args.batch w.last_seq w.handed_seq
+          (record { sized = sym c.size_refusal.ensures ∙ c.in_default.is; calm = c.in-None.is; last = c.self.invariant.seq; handed = c.self.invariant.handed })
           (omega (arith, c.ops_before.ensures, c.len-ops.ensures, c.if-self-ops_before-gt-LAST_NUMBER.true)));
     }
 
@@ -28,7 +26,8 @@ pub returns-then-self-ge-LAST_NUMBER : goal.returns-then-self-ge-LAST_NUMBER
 returns-then-self-ge-LAST_NUMBER g c =
     let w = c.self.inside in
     record {
-      turn = rw (← c.self.view_is) (ticket_spent _ c.args.batch w.last_seq w.handed_seq (sym c.size_refusal.ensures ∙ c.in_default.is) c.in-None.is c.self.invariant.seq c.self.invariant.handed
+      turn = rw (← c.self.view_is) (ticket_spent _ c.args.batch w.last_seq w.handed_seq
+          (record { sized = sym c.size_refusal.ensures ∙ c.in_default.is; calm = c.in-None.is; last = c.self.invariant.seq; handed = c.self.invariant.handed })
           (omega (arith, c.ops_before.ensures, c.len-ops.ensures, c.if-self-ops_before-gt-LAST_NUMBER.false)) c.if-self-ge-LAST_NUMBER.true);
     }
 
@@ -36,23 +35,31 @@ pub returns-then-waiting-ge-MAX_WAITING : goal.returns-then-waiting-ge-MAX_WAITI
 returns-then-waiting-ge-MAX_WAITING g c =
     let w = c.self.inside in
     record {
-      turn = rw (← c.self.view_is) (queue_full _ c.args.batch w.last_seq w.handed_seq c.waiting-waiting.result (sym c.size_refusal.ensures ∙ c.in_default.is) c.in-None.is
-          c.waiting-waiting.ensures.count c.if-waiting-ge-MAX_WAITING.true c.self.invariant.seq c.self.invariant.handed
+      turn = rw (← c.self.view_is) (queue_full _ c.args.batch w.last_seq w.handed_seq c.waiting-waiting.result
+          (record { sized = sym c.size_refusal.ensures ∙ c.in_default.is; calm = c.in-None.is; last = c.self.invariant.seq; handed = c.self.invariant.handed })
+          c.waiting-waiting.ensures.count c.if-waiting-ge-MAX_WAITING.true
           (omega (arith, c.ops_before.ensures, c.len-ops.ensures, c.if-self-ops_before-gt-LAST_NUMBER.false)) (omega (arith, c.if-self-ge-LAST_NUMBER.false)));
     }
 
-pub invariant_of-self-in-Queued : goal.invariant_of-self-in-Queued
-invariant_of-self-in-Queued g c =
+pub reserve-requires-3-clause-limits : goal.reserve-requires-3-clause-limits
+reserve-requires-3-clause-limits g c = (admissible c.args.batch (sym c.size_refusal.ensures ∙ c.in_default.is)).each
+
+pub join_reserved-requires-clause-admissible : goal.join_reserved-requires-clause-admissible
+join_reserved-requires-clause-admissible g c = admissible c.args.batch (sym c.size_refusal.ensures ∙ c.in_default.is)
+
+pub invariant_of-self-2 : goal.invariant_of-self-2
+invariant_of-self-2 g c =
     let w = c.self.inside in
     let t = c.reserve.ensures in
-    let q = c.reserve-else-is_err.ensures in
+    let q = c.reserve-2.ensures in
     let trail_ok = where_ok c.reserve.result (sym c.is_err.ensures.value ∙ c.if-is_err.false) t.ok in
-    let outcome_ok = where_ok c.reserve-else-is_err.result (sym c.is_err-else-is_err.ensures.value ∙ c.if-is_err-2.false) q.ok in
-    joined_in_order w.mem c.reserve-2.new.self w.trail c.reserve.new.self w.queue _ w.log w.last_seq w.handed_seq w.next_file c.args.batch c.self.invariant
+    let outcome_ok = where_ok c.reserve-2.result (sym c.is_err-2.ensures.value ∙ c.if-is_err-2.false) q.ok in
+    joined_in_order w.mem c.reserve-3.new.self w.trail c.reserve.new.self w.queue _ w.log w.failed w.last_seq w.handed_seq w.next_file c.args.batch c.self.invariant
     (record {
       shows = t.same;
+      limbo = t.limbo;
       trail_room = omega (arith, trail_ok, c.held.ensures, c.waiting-waiting.ensures.count);
-      waiting = c.in-Queued.ensures.added ∙ (λ k. q.waiting k ++ ticketed (q.last_ticket k + 1) c.args.batch ∷ []);
+      waiting = c.join_reserved.ensures ∙ (λ k. q.waiting k ++ ticketed (q.last_ticket k + 1) c.args.batch ∷ []);
       group = q.group;
       outcomes = q.outcomes;
       outcome_room = outcome_ok;
@@ -61,34 +68,33 @@ invariant_of-self-in-Queued g c =
     })
     (omega (arith, c.ops_before.ensures, c.len-ops.ensures, c.if-self-ops_before-gt-LAST_NUMBER.false)) (omega (arith, c.if-self-ge-LAST_NUMBER.false))
     (record {
-      rows = c.reserve-2.ensures.rows;
-      bytes = where_ok c.reserve-2.result (sym c.is_err-2.ensures.value ∙ c.if-is_err-3.false) c.reserve-2.ensures.bytes;
-      entries = where_ok c.reserve-2.result (sym c.is_err-2.ensures.value ∙ c.if-is_err-3.false) c.reserve-2.ensures.entries;
+      rows = c.reserve-3.ensures.rows;
+      bytes = where_ok c.reserve-3.result (sym c.is_err-3.ensures.value ∙ c.if-is_err-3.false) c.reserve-3.ensures.bytes;
+      entries = where_ok c.reserve-3.result (sym c.is_err-3.ensures.value ∙ c.if-is_err-3.false) c.reserve-3.ensures.entries;
     })
 
-pub reserve-requires-2-clause-limits : goal.reserve-requires-2-clause-limits
-reserve-requires-2-clause-limits g c = (admissible c.args.batch (sym c.size_refusal.ensures ∙ c.in_default.is)).each
-
-pub returns-in-Queued : goal.returns-in-Queued
-returns-in-Queued g c =
+pub returns : goal.returns
+returns g c =
     let w = c.self.inside in
-    let q = c.reserve-else-is_err.ensures in
+    let q = c.reserve-2.ensures in
     let D = g.D.Disk in
     let old : CoreView = record {
       device = D.seen w.disk;
       trail = shown w.trail;
-      stage = w.log;
-      waiting = w.queue.waiting;
+      log = w.log;
+      waiting = w.queue.waiting.items;
       group = flying w.queue.group;
       outcomes = w.queue.outcomes.items;
       last_ticket = w.queue.last_ticket;
       job = w.queue.job;
-      standing = w.standing;
+      failed = w.failed;
       next_file = w.next_file;
     } in
-    let added = c.in-Queued.ensures.added ∙ (λ k. q.waiting k ++ ticketed (q.last_ticket k + 1) c.args.batch ∷ []) in
+    let added = c.join_reserved.ensures ∙ (λ k. q.waiting k ++ ticketed (q.last_ticket k + 1) c.args.batch ∷ []) in
     record {
       turn = rw (← c.self.view_is, c.reserve.ensures.same, added, q.group, q.outcomes, q.last_ticket, q.job)
-          (queued_goes old c.args.batch w.last_seq w.handed_seq (sym c.size_refusal.ensures ∙ c.in_default.is) c.in-None.is (omega (arith, c.waiting-waiting.ensures.count, c.if-waiting-ge-MAX_WAITING.false))
-          c.self.invariant.seq c.self.invariant.handed (omega (arith, c.ops_before.ensures, c.len-ops.ensures, c.if-self-ops_before-gt-LAST_NUMBER.false)) (omega (arith, c.if-self-ge-LAST_NUMBER.false)));
+          (queued_goes old c.args.batch w.last_seq w.handed_seq
+          (record { sized = sym c.size_refusal.ensures ∙ c.in_default.is; calm = c.in-None.is; last = c.self.invariant.seq; handed = c.self.invariant.handed })
+          (omega (arith, c.waiting-waiting.ensures.count, c.if-waiting-ge-MAX_WAITING.false))
+          (omega (arith, c.ops_before.ensures, c.len-ops.ensures, c.if-self-ops_before-gt-LAST_NUMBER.false)) (omega (arith, c.if-self-ge-LAST_NUMBER.false)));
     }

@@ -7,6 +7,8 @@ pub invariant_of-self : goal.invariant_of-self
 invariant_of-self g c =
     let w = c.self.inside in
     let q = c.take_batches-batches.ensures in
-    handed_in_order w.mem w.trail c.hand.new.self w.queue c.take_batches-batches.new.self w.log w.last_seq w.handed_seq w.next_file c.count_ops.result c.take_batches-batches.result.items c.self.invariant
-    (record { waiting = q.waiting; group = q.group; outcomes = q.outcomes; ticket = q.last_ticket; job = q.job })
-    (rw (← c.self.view_is) at c.requires) q.batches (c.count_ops.ensures ∙ ap (λ l. count_ops (ops_of l)) c.deref.ensures.value) c.hand.ensures.shown c.hand.ensures.count c.hand.ensures.room
+    let t = c.hand.ensures in
+    handed_in_order w.mem w.trail c.hand.new.self w.queue c.take_batches-batches.new.self w.log w.failed w.last_seq w.handed_seq w.next_file c.count_ops.result c.take_batches-batches.result.items c.self.invariant
+    (record { waiting = ap (λ v. v.items) q.waiting; group = q.group; next = q.next; outcomes = q.outcomes; ticket = q.last_ticket; job = q.job })
+    q.batches (c.count_ops.ensures ∙ ap (λ l. count_ops (ops_of l)) c.deref.ensures.value)
+    (record { shows = t.shown; limbo = t.limbo; len = t.count; room = t.room })

@@ -1,20 +1,21 @@
-use Rattle.std.proofs.Common.{◌+◌, ◌++◌, length, sym, ap, ◌∙◌, arith}
+use Rattle.std.proofs.Common.{◌+◌, ◌++◌, length, ap, ◌∙◌, arith}
 use Rattle.keel_machine.specs.declared.steps.WriteStep.TheVariants as step
-use Rattle.keel_core.specs.Trails.{TrailShown, shown, point_at}
-use Rattle.keel_core.specs.Views.{CoreView}
-use Rattle.keel_machine.specs.Admission.{count_ops, ops_of}
+use Rattle.keel_machine.specs.Admission.{count_ops, ops_of, tickets_of_group}
+use Rattle.keel_core.specs.Trails.{shown}
+use Rattle.keel_core.specs.Steps.{all_published}
+use Rattle.keel_core.specs.Views.{CoreView, point_in}
 use Rattle.keel_core.specs.Placing.{batch_rows, bytes_needed}
 use Rattle.keel_core.specs.Flights.{flying}
-use Rattle.keel_core.specs.Queues.{tickets_in}
 use Rattle.keel_core.proofs.Ordering.{done_settled, published_in_order, published_view, seq_published}
 use Rattle.keel_core.proofs.store.Core.publish.Goals as goal
 
 pub invariant_of-self : goal.invariant_of-self
 invariant_of-self g c =
     let w = c.self.inside in
-    published_in_order w.mem c.place.new.mem w.trail c.publish.new.self w.queue c.settle_done.new.self w.log w.last_seq w.handed_seq w.next_file c.args.sync _ c.self.invariant
+    let t = c.publish.ensures in
+    published_in_order w.mem c.place.new.mem w.trail c.publish.new.self w.queue c.settle_done.new.self w.log w.failed w.last_seq w.handed_seq w.next_file c.args.sync _ c.self.invariant
     (record {
-      waiting = c.settle_done.ensures.waiting;
+      waiting = ap (λ v. v.items) c.settle_done.ensures.waiting;
       group = c.settle_done.ensures.group;
       added = c.settle_done.ensures.outcomes;
       len = c.settle_done.ensures.len;
@@ -22,10 +23,11 @@ invariant_of-self g c =
       ticket = c.settle_done.ensures.last_ticket;
       job = c.settle_done.ensures.job;
     })
-    (done_settled w.last_seq (tickets_in (flying w.queue.group)) (ops_of c.limbo-2.result.now)) (rw (← c.self.view_is) at c.requires) c.publish.ensures.shown c.publish.ensures.count c.publish.ensures.room
+    (done_settled w.last_seq (tickets_of_group (flying w.queue.group)) (ops_of c.limbo-2.result.now))
+    (record { shows = t.shown; limbo = t.limbo; len = t.count; room = t.room })
     (record {
       rows = c.place.ensures.rows ∙ (λ k. w.mem.rows ++ batch_rows (c.self.invariant.seq k + 1) (ops_of (c.limbo.ensures k)));
-      bytes = omega (arith, c.place.ensures.bytes, ap bytes_needed c.limbo.ensures);
+      bytes = omega (arith, c.place.ensures.bytes, ap (λ l. bytes_needed (ops_of l)) c.limbo.ensures);
       entries = omega (arith, c.place.ensures.entries, ap (λ l. count_ops (ops_of l)) c.limbo.ensures);
     })
 
@@ -37,23 +39,24 @@ returns-clause-view g c =
     let old : CoreView = record {
       device = D.seen w.disk;
       trail = shown w.trail;
-      stage = w.log;
-      waiting = w.queue.waiting;
+      log = w.log;
+      waiting = w.queue.waiting.items;
       group = flying w.queue.group;
       outcomes = w.queue.outcomes.items;
       last_ticket = w.queue.last_ticket;
       job = w.queue.job;
-      standing = w.standing;
+      failed = w.failed;
       next_file = w.next_file;
     } in
     let group = ap flying q.group in
-    rw (← c.self.view_is) (published_view c.args.sync old _ _ _ _ _ _ w.last_seq c.limbo-2.result.now c.publish.ensures.shown q.waiting group q.outcomes q.last_ticket q.job c.self.invariant.seq c.limbo-2.ensures)
+    let waiting = ap (λ v. v.items) q.waiting in
+    rw (← c.self.view_is) (published_view c.args.sync old _ _ _ _ _ _ w.last_seq (ops_of c.limbo-2.result.now) c.publish.ensures.shown waiting group q.outcomes q.last_ticket q.job c.self.invariant.seq (ap ops_of c.limbo-2.ensures))
 
 pub returns-clause-step : goal.returns-clause-step
 returns-clause-step g c =
     let w = c.self.inside in
     let seq = seq_published (shown w.trail) c.args.sync w.last_seq w.handed_seq c.self.invariant.seq c.self.invariant.handed in
-    let reached = seq ∙ ap (λ (t : TrailShown). (point_at t).seq) (sym c.publish.ensures.shown) in
+    let reached = seq ∙ ap (λ (v : CoreView). (point_in (all_published c.args.sync v)).seq) c.self.view_is in
     let job = c.settle_done.ensures.job ∙ ap (λ (v : CoreView). v.job) c.self.view_is in
-    let count = c.in_flight-batches.ensures ∙ ap (λ (v : CoreView). length (tickets_in v.group)) c.self.view_is in
+    let count = c.in_flight-batches.ensures ∙ ap (λ (v : CoreView). length (tickets_of_group v.group)) c.self.view_is in
     λ i. step.Done (job i) (reached i) (count i)

@@ -1,5 +1,4 @@
-use Rattle.std.proofs.Common.{sym, ◌∙◌}
-use Rattle.keel_core.specs.Flights.{flying}
+use Rattle.std.proofs.Common.{sym, ap, ◌∙◌}
 use Rattle.keel_core.proofs.Admitting.{taken_goes, waits_left}
 use Rattle.keel_core.proofs.Ordering.{taken_in_order}
 use Rattle.keel_core.proofs.store.Core.take_outcome.Goals as goal
@@ -8,8 +7,8 @@ pub invariant_of-self : goal.invariant_of-self
 invariant_of-self g c =
     let w = c.self.inside in
     let q = c.take_outcome.ensures in
-    taken_in_order w.mem w.trail w.queue c.take_outcome.new.self w.log w.last_seq w.handed_seq w.next_file c.args.ticket c.self.invariant
-    q.waiting q.group q.outcomes q.len q.room q.last_ticket q.job
+    taken_in_order w.mem w.trail w.queue c.take_outcome.new.self w.log w.failed w.last_seq w.handed_seq w.next_file c.args.ticket c.self.invariant
+    (ap (λ v. v.items) q.waiting) q.group q.outcomes q.len q.room q.last_ticket q.job
 
 pub returns-clause-turn : goal.returns-clause-turn
 returns-clause-turn g c =
@@ -20,4 +19,4 @@ pub returns-clause-waits : goal.returns-clause-waits
 returns-clause-waits g c =
     let q = c.take_outcome.ensures in
     let w = c.self.inside in
-    rw (← c.self.view_is) (λ waits. waits_left w.log (flying w.queue.group) w.queue.waiting w.queue.outcomes.items c.args.ticket c.self.invariant.settled (sym q.outcome ∙ waits))
+    rw (← c.self.view_is) (λ waits. waits_left w.queue.group w.queue.waiting.items w.queue.outcomes.items c.args.ticket c.self.invariant.settled (sym q.outcome ∙ waits))

@@ -4,7 +4,7 @@ use Rattle.keel_core.proofs.store.Core.write_step.Goals as goal
 
 pub returns-in-None-clause-turn : goal.returns-in-None-clause-turn
 returns-in-None-clause-turn g c = record {
-  goes = λ s stands. c.make_call.ensures.turn.goes s c.args.held stands (rest_same c.args.self.now s c.args.held stands ∙ sym c.in-None.ensures.rest);
+  goes = λ s stands. c.act.ensures.turn.goes s c.args.held stands (rest_same c.args.self.now s c.args.held stands ∙ sym c.in-None.ensures.rest);
 }
 
 pub returns-in-Some-clause-turn : goal.returns-in-Some-clause-turn

@@ -1,6 +1,0 @@
-use Rattle.std.proofs.Common.{◌∙◌, sym}
-use Rattle.keel_group.proofs.Zipping.{shown_tickets}
-use Rattle.keel_group.proofs.group.Group.tickets.Goals as goal
-
-pub returns : goal.returns
-returns c = c.as_slice.ensures.value ∙ sym (shown_tickets _ _ _ c.self.view_is c.self.invariant.as_many)

@@ -1,9 +1,0 @@
-use Rattle.std.proofs.Common.{◌∙◌, sym, ap}
-use Rattle.keel_group.specs.Queue.{ops_count}
-use Rattle.keel_group.proofs.Zipping.{shown_batches}
-use Rattle.keel_group.proofs.group.Group.waiting_ops.Goals as goal
-
-pub returns : goal.returns
-returns c =
-    c.ops_count.ensures
-    ∙ ap ops_count (c.as_slice.ensures.value ∙ sym (shown_batches _ _ _ c.self.view_is c.self.invariant.as_many))
