@@ -15,16 +15,17 @@ use Rattle.keel_machine.specs.declared.answers.Scanned.{Scanned}
 use Rattle.keel_machine.specs.declared.answers.Scanned.TheVariants as scanned
 use Rattle.keel_base.specs.declared.row.Row.{Row}
 use Rattle.keel_machine.specs.Opening.{continues}
-use Rattle.keel_machine.specs.States.{State, Mode, Unopened, Closed, Open as Opened, with_device}
+use Rattle.keel_machine.specs.States.{State, with_device}
 use Rattle.keel_disk.specs.declared.rule.Arranged.TheVariants.{Crashed}
 use Rattle.keel_disk.specs.declared.rule.Pick.{Pick}
 use Rattle.keel_machine.specs.Turns.{Turn, Answers, after, Opening, Getting, Scanning, Listing, Crashing}
-use Rattle.keel_machine.specs.Crash.{crash_after, mode_crashed}
+use Rattle.keel_machine.specs.Crash.{crash_after}
 use Rattle.keel_reading.specs.declared.refusal.OpenRefusal.{OpenRefusal}
 use Rattle.keel_reading.specs.declared.refusal.OpenRefusal.TheVariants as refusal
 use Rattle.keel_core.specs.Openings.{Opens, Expects, IsBorneOut, WhereGoesOn}
 use Rattle.keel_core.specs.Views.{CoreView, StandsFor, Turns, point_in}
-use Rattle.keel_recovery.specs.Machine.{is_open, IsCovered, Drops, ReadsOnIn}
+use Rattle.keel_recovery.specs.Machine.{IsCovered, Drops, ReadsOnIn}
+use Rattle.keel_machine.specs.States.{is_open}
 use Rattle.keel_recovery.proofs.Crashing.{crash_turns}
 use Rattle.keel_recovery.proofs.GoingOn.{covered_reads}
 use Rattle.keel_script.specs.declared.command.Command.{Command}
@@ -42,22 +43,22 @@ use Rattle.keel_cli.proofs.Tickets.{state_at, stands_at, told_in}
 
 -- ---- commands that make no call, and those that make some
 
-pub rests_on_store : (s : State) (command : Command) (reply_ : Reply) (is_one_open : Bool) → is_open s.mode ≡ is_one_open → Some reply_ ≡ rest_reply is_one_open command
+pub rests_on_store : (s : State) (command : Command) (reply_ : Reply) (is_one_open : Bool) → is_open s.mode.phase ≡ is_one_open → Some reply_ ≡ rest_reply is_one_open command
     → CarriesOnStore s command (reply_ ∷ []) s
 rests_on_store s command reply_ is_one_open is rests =
     subst (λ (r : Option Reply). RestsOrCalls r s command (reply_ ∷ []) s) (rests ∙ ap (λ (b : Bool). rest_reply b command) (sym is)) (record { same = refl; prints = refl })
 
-pub calls_on_store : (s new : State) (command : Command) (replies : List Reply) → rest_reply (is_open s.mode) command ≡ None → Calls s command replies new → CarriesOnStore s command replies new
+pub calls_on_store : (s new : State) (command : Command) (replies : List Reply) → rest_reply (is_open s.mode.phase) command ≡ None → Calls s command replies new → CarriesOnStore s command replies new
 calls_on_store s new command replies none run = subst (λ (r : Option Reply). RestsOrCalls r s command replies new) (sym none) run
 
-pub partly_on_store : (s new : State) (command : Command) → rest_reply (is_open s.mode) command ≡ None → CallsPartly s command new → StoreCutShort s command new
+pub partly_on_store : (s new : State) (command : Command) → rest_reply (is_open s.mode.phase) command ≡ None → CallsPartly s command new → StoreCutShort s command new
 partly_on_store s new command none cut = inr (inr (none, cut))
 
-pub open_mode : (core : CoreView) (s : State) → StandsFor core s → is_open s.mode ≡ true
-open_mode core s stands = ap (λ (t : State). is_open t.mode) stands.state_is
+pub open_mode : (core : CoreView) (s : State) → StandsFor core s → is_open s.mode.phase ≡ true
+open_mode core s stands = ap (λ (t : State). is_open t.mode.phase) stands.state_is
 
 -- whether a store is open, as the machine has it
-pub open_as : (store : StoreView) (s : State) → Stands store s → is_open s.mode ≡ is_one_open store
+pub open_as : (store : StoreView) (s : State) → Stands store s → is_open s.mode.phase ≡ is_one_open store
 open_as (view.Closed shows) s stands = stands.shut
 open_as (view.Open core) s stands = open_mode core s stands
 open_as view.Lent s stands = absurd stands
@@ -85,7 +86,7 @@ shut_where (view.Closed shows) s seen is stands shown = record { shut = stands.s
 shut_where (view.Open core) s seen is stands shown = absurd cc
 shut_where view.Lent s seen is stands shown = absurd stands
 
-none_where : (s : State) (b : Bool) (command : Command) → is_open s.mode ≡ b → rest_reply b command ≡ None → rest_reply (is_open s.mode) command ≡ None
+none_where : (s : State) (b : Bool) (command : Command) → is_open s.mode.phase ≡ b → rest_reply b command ≡ None → rest_reply (is_open s.mode.phase) command ≡ None
 none_where s b command is none = ap (λ (c : Bool). rest_reply c command) is ∙ none
 
 -- ---- reads
@@ -184,10 +185,10 @@ borne_out (Some told) s is reads = record {
 }
 
 -- the device of a covered store bears out the story with which an opening goes on
-pub expected : (s : State) → IsCovered s → Expects s
-expected s covered =
+pub expected : (s : State) → is_open s.mode.phase ≡ false → IsCovered s → Expects s
+expected s shut covered =
     elim (continues s.mode s.footing) as (λ b. continues s.mode s.footing ≡ b → WhereGoesOn b s) [
-      | true ↦ λ goes. borne_out s.device.told s refl (covered_reads s goes covered)
+      | true ↦ λ goes. borne_out s.device.told s refl (covered_reads s shut goes covered)
       | false ↦ λ begins. tt
     ] refl
 
@@ -226,7 +227,7 @@ none_of_list true = refl
 none_of_list false = refl
 
 module _ (s next : State) where
-  pub listed : (store : StoreView) (is_one_open : Bool) (answer : Result (List Entry) DiskError) (a : Result Answer OutOfMemory) → is_open s.mode ≡ is_one_open
+  pub listed : (store : StoreView) (is_one_open : Bool) (answer : Result (List Entry) DiskError) (a : Result Answer OutOfMemory) → is_open s.mode.phase ≡ is_one_open
       → Stands store next → Shows store next.device → Turn s (Listing answer) next
       → IfOk a (λ x. listing_replies answer ≡ Some (replies_of x)) → (IsErr a → answer ≡ Err disk.OutOfMemory)
       → CarriedOut s Files store a
@@ -241,14 +242,9 @@ list_told old new answer turns told =
 
 -- ---- crashes
 
-shut_behind : (s : State) (kept : Option ℕ) → is_open (crash_after s kept).mode ≡ false
+shut_behind : (s : State) (kept : Option ℕ) → is_open (crash_after s kept).mode.phase ≡ false
 shut_behind s None = refl
-shut_behind s (Some count) = shut_by s.mode
-  where
-    shut_by : (m : Mode) → is_open (mode_crashed m) ≡ false
-    shut_by Unopened = refl
-    shut_by Closed = refl
-    shut_by Opened = refl
+shut_behind s (Some count) = refl
 
 module _ (s : State) (dirops keep garbage seed : ℕ) where
   abbrev crash : Command
@@ -257,8 +253,8 @@ module _ (s : State) (dirops keep garbage seed : ℕ) where
   abbrev picked : Pick
   picked = record { dirops = dirops; keep = keep; garbage = garbage; seed = seed }
 
-  none_of_crash : rest_reply (is_open s.mode) crash ≡ None
-  none_of_crash = by (is_open s.mode)
+  none_of_crash : rest_reply (is_open s.mode.phase) crash ≡ None
+  none_of_crash = by (is_open s.mode.phase)
     where
       by : (b : Bool) → rest_reply b crash ≡ None
       by true = refl

@@ -6,7 +6,7 @@ use Rattle.keel_base.specs.declared.options.Options.{Options}
 use Rattle.keel_base.specs.declared.option_name.OptionName.{OptionName}
 use Rattle.keel_base.specs.declared.option_name.Range.{Range}
 use Rattle.keel_base.specs.Options.{range_of, IsWithin, SetsOne}
-use Rattle.keel_recovery.specs.Machine.{is_open}
+use Rattle.keel_machine.specs.States.{is_open}
 use Rattle.keel_script.specs.declared.command.Command.{Command}
 use Rattle.keel_script.specs.declared.command.Command.TheVariants.{SetOption, Tick}
 use Rattle.keel_script.specs.declared.reply.Reply.{Reply}
@@ -42,14 +42,14 @@ module _ (V : Type 0) where
   pub kept_open : (driver : Driver V) (name : OptionName) (value : ℕ) (session : Session) → StandsAt driver session → true ≡ is_one_open driver.store
       → DriverLeads driver (Carries session (SetOption name value) (reply.IsOpen ∷ []))
   kept_open driver name value session stands is =
-      let opened : true ≡ is_open session.store.mode = is ∙ sym (open_as driver.store session.store stands.store) in
+      let opened : true ≡ is_open session.store.mode.phase = is ∙ sym (open_as driver.store session.store stands.store) in
       (session, stands, subst (λ b. SetRun b session name value (reply.IsOpen ∷ []) session) opened (record { same = refl; prints = refl }))
 
   pub set_to : (store : StoreView) (old new : Options) (tick value : ℕ) (name : OptionName) (session : Session) → StandsAt (with_values store old tick) session
       → false ≡ is_one_open store → IsWithin name value → SetsOne name value old new
       → DriverLeads (with_values store new tick) (Carries session (SetOption name value) (reply.OptionSet name value ∷ []))
   set_to store old new tick value name session stands is within sets =
-      let shut : false ≡ is_open session.store.mode = is ∙ sym (open_as store session.store stands.store) in
+      let shut : false ≡ is_open session.store.mode.phase = is ∙ sym (open_as store session.store stands.store) in
       let next : Session = record session { options = new } in
       let sets_one : SetsOne name value session.options new = subst (λ (o : Options). SetsOne name value o new) (sym stands.options) sets in (
         next,
@@ -62,7 +62,7 @@ module _ (V : Type 0) where
       → false ≡ is_one_open store → ¬ IsWithin name value → new ≡ old → range ≡ range_of name
       → DriverLeads (with_values store new tick) (Carries session (SetOption name value) (reply.BadOption name range.least range.greatest ∷ []))
   out_of_range store old new tick value name range session stands is out same range_is =
-      let shut : false ≡ is_open session.store.mode = is ∙ sym (open_as store session.store stands.store) in (
+      let shut : false ≡ is_open session.store.mode.phase = is ∙ sym (open_as store session.store stands.store) in (
         session,
         record { store = stands.store; options = stands.options ∙ sym same; tick = stands.tick },
         subst (λ b. SetRun b session name value (reply.BadOption name range.least range.greatest ∷ []) session) shut

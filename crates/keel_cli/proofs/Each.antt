@@ -7,7 +7,8 @@ use Rattle.keel_machine.specs.declared.steps.WriteStep.{WriteStep}
 use Rattle.keel_machine.specs.declared.steps.WriteStep.TheVariants as step
 use Rattle.keel_machine.specs.States.{State}
 use Rattle.keel_machine.specs.Turns.{Event, Writing, Turn}
-use Rattle.keel_recovery.specs.Machine.{is_open, MayCall}
+use Rattle.keel_recovery.specs.Machine.{MayCall}
+use Rattle.keel_machine.specs.States.{is_open}
 use Rattle.keel_script.specs.declared.command.Command.{Command}
 use Rattle.keel_script.specs.declared.command.Command.TheVariants.{SetOption, Put, Del, Write, Drain, Tick}
 use Rattle.keel_script.specs.declared.reply.Reply.{Reply}
@@ -26,7 +27,7 @@ use Rattle.keel_cli.proofs.Keeping.{IsKept, admitted, taken, waited, moved, carr
 none_some : {A P : Type 0} (x : A) → Some x ≡ None → P
 none_some x e = cc
 
-module _ (C : State → Type 0) (keep : (old new : State) (event : Event) → MayCall old event → Turn old event new → C old → C new) (Has : OfStep) (has : (old new : State) (made : WriteStep) → is_open old.mode ≡ true → Turn old (Writing None made) new → C old → Has old made new) where
+module _ (C : State → Type 0) (keep : (old new : State) (event : Event) → MayCall old event → Turn old event new → C old → C new) (Has : OfStep) (has : (old new : State) (made : WriteStep) → is_open old.mode.phase ≡ true → Turn old (Writing None made) new → C old → Has old made new) where
   -- ---- writes and drains
 
   each_wait : (old new : State) (ticket : ℕ) (steps : List WriteStep) (waits : Waits old ticket steps new) → IsKept C keep old → EachWait Has old ticket steps new waits
@@ -63,7 +64,7 @@ module _ (C : State → Type 0) (keep : (old new : State) (event : Event) → Ma
 
   -- ---- commands
 
-  each_call : (b : Bool) (old new : State) (command : Command) (replies : List Reply) → is_open old.mode ≡ b → rest_reply b command ≡ None
+  each_call : (b : Bool) (old new : State) (command : Command) (replies : List Reply) → is_open old.mode.phase ≡ b → rest_reply b command ≡ None
       → (run : Calls old command replies new) → C old → EachCall Has old command replies new run
   each_call true old new (Put key value sync) replies opened none run kept = each_put old new (put_batch key value sync) replies run (record { opened = opened; kept = kept })
   each_call false old new (Put key value sync) replies opened none run kept = none_some _ none
@@ -75,12 +76,12 @@ module _ (C : State → Type 0) (keep : (old new : State) (event : Event) → Ma
   each_call false old new (Drain moves) replies opened none run kept = none_some _ none
   each_call b old new command replies opened none run kept = tt
 
-  each_on_store : (r : Option Reply) (old new : State) (command : Command) (replies : List Reply) → rest_reply (is_open old.mode) command ≡ r
+  each_on_store : (r : Option Reply) (old new : State) (command : Command) (replies : List Reply) → rest_reply (is_open old.mode.phase) command ≡ r
       → (run : RestsOrCalls r old command replies new) → C old → EachOnStore Has r old command replies new run
   each_on_store (Some reply) old new command replies is rests kept = tt
-  each_on_store None old new command replies is run kept = each_call (is_open old.mode) old new command replies refl is run kept
+  each_on_store None old new command replies is run kept = each_call (is_open old.mode.phase) old new command replies refl is run kept
 
-  each_partly : (b : Bool) (old new : State) (command : Command) → is_open old.mode ≡ b → rest_reply b command ≡ None
+  each_partly : (b : Bool) (old new : State) (command : Command) → is_open old.mode.phase ≡ b → rest_reply b command ≡ None
       → (cut : CallsPartly old command new) → C old → EachPartly Has old command new cut
   each_partly true old new (Put key value sync) opened none cut kept = each_put_cut old new (put_batch key value sync) cut (record { opened = opened; kept = kept })
   each_partly false old new (Put key value sync) opened none cut kept = none_some _ none
@@ -96,13 +97,13 @@ module _ (C : State → Type 0) (keep : (old new : State) (event : Event) → Ma
 
   each_store_cut : (old new : State) (command : Command) (cut : StoreCutShort old command new) → C old → EachStoreCut Has old command new cut
   each_store_cut old new command (inl same) kept = tt
-  each_store_cut old new command (inr (inl carries)) kept = each_on_store (rest_reply (is_open old.mode) command) old new command carries.0 refl carries.1 kept
-  each_store_cut old new command (inr (inr cut)) kept = each_partly (is_open old.mode) old new command refl cut.0 cut.1 kept
+  each_store_cut old new command (inr (inl carries)) kept = each_on_store (rest_reply (is_open old.mode.phase) command) old new command carries.0 refl carries.1 kept
+  each_store_cut old new command (inr (inr cut)) kept = each_partly (is_open old.mode.phase) old new command refl cut.0 cut.1 kept
 
   each_of : (old new : Session) (command : Command) (replies : List Reply) (run : Carries old command replies new) → C old.store → EachOf Has old command replies new run
   each_of old new (SetOption name value) replies run kept = tt
   each_of old new (Tick ticks) replies run kept = tt
-  each_of old new command replies run kept = each_on_store (rest_reply (is_open old.store.mode) command) old.store new.store command replies refl run.carries kept
+  each_of old new command replies run kept = each_on_store (rest_reply (is_open old.store.mode.phase) command) old.store new.store command replies refl run.carries kept
 
   each_cut : (old new : Session) (command : Command) (cut : CutShort old command new) → C old.store → EachCut Has old command new cut
   each_cut old new command (inl short) kept = each_store_cut old.store new.store command short.cut kept

@@ -12,10 +12,11 @@ use Rattle.keel_machine.specs.declared.answers.Outcome.{Outcome}
 use Rattle.keel_machine.specs.declared.answers.Outcome.TheVariants as outcome
 use Rattle.keel_machine.specs.declared.steps.WriteStep.{WriteStep}
 use Rattle.keel_machine.specs.declared.steps.WriteStep.TheVariants as step
-use Rattle.keel_machine.specs.States.{State}
+use Rattle.keel_machine.specs.States.{State, Mode}
 use Rattle.keel_machine.specs.Turns.{Event, Opening, Admitting, Writing, TakingOutcome, Getting, Scanning, Listing, Crashing, Turn}
 use Rattle.keel_reading.specs.declared.refusal.OpenRefusal.TheVariants as refusal
-use Rattle.keel_recovery.specs.Machine.{is_open, MayCall}
+use Rattle.keel_recovery.specs.Machine.{MayCall}
+use Rattle.keel_machine.specs.States.{is_open}
 use Rattle.keel_script.specs.declared.command.Command.{Command}
 use Rattle.keel_script.specs.declared.command.Command.TheVariants.{SetOption, Open, Put, Del, QueuePut, QueueDel, Write, Drain, Tick, Get, Scan, Files, Crash}
 use Rattle.keel_script.specs.declared.reply.Reply.{Reply}
@@ -36,24 +37,24 @@ none_some x e = cc
 module _ (C : State → Type 0) (keep : (old new : State) (event : Event) → MayCall old event → Turn old event new → C old → C new) where
   -- a store that is open and of which this holds stays so
   pub record IsKept (s : State) : Type 0 where
-    pub opened : is_open s.mode ≡ true
+    pub opened : is_open s.mode.phase ≡ true
     pub kept : C s
 
   pub admitted : (old new : State) (batch : Batch) (answer : Admit) → Turn old (Admitting batch answer) new → IsKept old → IsKept new
   admitted old new batch answer turn is = record {
-    opened = ap (λ (s : State). is_open s.mode) turn.1 ∙ (ap is_open (mode_admitted old batch answer) ∙ is.opened);
+    opened = ap (λ (s : State). is_open s.mode.phase) turn.1 ∙ (ap (λ (m : Mode). is_open m.phase) (mode_admitted old batch answer) ∙ is.opened);
     kept = keep old new (Admitting batch answer) is.opened turn is.kept;
   }
 
   pub written : (old new : State) (held : Option ℕ) (made : WriteStep) → Turn old (Writing held made) new → IsKept old → IsKept new
   written old new held made turn is = record {
-    opened = ap (λ (s : State). is_open s.mode) turn.1 ∙ (ap is_open (mode_written old made) ∙ is.opened);
+    opened = ap (λ (s : State). is_open s.mode.phase) turn.1 ∙ (ap (λ (m : Mode). is_open m.phase) (mode_written old made) ∙ is.opened);
     kept = keep old new (Writing held made) is.opened turn is.kept;
   }
 
   pub taken : (old new : State) (ticket : ℕ) (outcome : Outcome) → Turn old (TakingOutcome ticket outcome) new → IsKept old → IsKept new
   taken old new ticket outcome turn is = record {
-    opened = ap (λ (s : State). is_open s.mode) turn.1 ∙ is.opened;
+    opened = ap (λ (s : State). is_open s.mode.phase) turn.1 ∙ is.opened;
     kept = keep old new (TakingOutcome ticket outcome) is.opened turn is.kept;
   }
 
@@ -101,7 +102,7 @@ module _ (C : State → Type 0) (keep : (old new : State) (event : Event) → Ma
   crashed true old new pick replies run kept = keep old new (Crashing pick run.0) tt run.1 kept
   crashed false old new pick replies rests kept = rw rests.same kept
 
-  calls : (b : Bool) (old new : State) (command : Command) (replies : List Reply) → is_open old.mode ≡ b → rest_reply b command ≡ None → Calls old command replies new → C old → C new
+  calls : (b : Bool) (old new : State) (command : Command) (replies : List Reply) → is_open old.mode.phase ≡ b → rest_reply b command ≡ None → Calls old command replies new → C old → C new
   calls true old new Open replies opened none run kept = none_some _ none
   calls false old new Open replies opened none run kept = keep old new (Opening run.answer) opened run.turn kept
   calls true old new (Put key value sync) replies opened none run kept = put old new (put_batch key value sync) replies run (record { opened = opened; kept = kept })
@@ -125,14 +126,14 @@ module _ (C : State → Type 0) (keep : (old new : State) (event : Event) → Ma
       crashed old.device.simulated old new (record { dirops = dirops; keep = keep_; garbage = garbage; seed = seed }) replies run kept
   calls b old new command replies opened none run kept = absurd run
 
-  rests_or_calls : (r : Option Reply) (old new : State) (command : Command) (replies : List Reply) → rest_reply (is_open old.mode) command ≡ r → RestsOrCalls r old command replies new → C old → C new
-  rests_or_calls None old new command replies is run kept = calls (is_open old.mode) old new command replies refl is run kept
+  rests_or_calls : (r : Option Reply) (old new : State) (command : Command) (replies : List Reply) → rest_reply (is_open old.mode.phase) command ≡ r → RestsOrCalls r old command replies new → C old → C new
+  rests_or_calls None old new command replies is run kept = calls (is_open old.mode.phase) old new command replies refl is run kept
   rests_or_calls (Some reply) old new command replies is rests kept = rw rests.same kept
 
   on_store : (old new : State) (command : Command) (replies : List Reply) → CarriesOnStore old command replies new → C old → C new
-  on_store old new command replies run kept = rests_or_calls (rest_reply (is_open old.mode) command) old new command replies refl run kept
+  on_store old new command replies run kept = rests_or_calls (rest_reply (is_open old.mode.phase) command) old new command replies refl run kept
 
-  partly : (b : Bool) (old new : State) (command : Command) → is_open old.mode ≡ b → rest_reply b command ≡ None → CallsPartly old command new → C old → C new
+  partly : (b : Bool) (old new : State) (command : Command) → is_open old.mode.phase ≡ b → rest_reply b command ≡ None → CallsPartly old command new → C old → C new
   partly true old new Open opened none turn kept = none_some _ none
   partly false old new Open opened none turn kept = keep old new (Opening (Err refusal.OutOfMemory)) opened turn kept
   partly true old new (Put key value sync) opened none cut kept = put_cut old new (put_batch key value sync) cut (record { opened = opened; kept = kept })
@@ -157,7 +158,7 @@ module _ (C : State → Type 0) (keep : (old new : State) (event : Event) → Ma
   store_cut : (old new : State) (command : Command) → StoreCutShort old command new → C old → C new
   store_cut old new command (inl same) kept = rw same kept
   store_cut old new command (inr (inl carries)) kept = on_store old new command carries.0 carries.1 kept
-  store_cut old new command (inr (inr cut)) kept = partly (is_open old.mode) old new command refl cut.0 cut.1 kept
+  store_cut old new command (inr (inr cut)) kept = partly (is_open old.mode.phase) old new command refl cut.0 cut.1 kept
 
   -- ---- commands of a session
 
@@ -170,7 +171,7 @@ module _ (C : State → Type 0) (keep : (old new : State) (event : Event) → Ma
   set false old new name value replies (inr out) kept = same_store old new (ap (λ (s : Session). s.store) out.rests.same) kept
 
   pub carried : (old new : Session) (command : Command) (replies : List Reply) → Carries old command replies new → C old.store → C new.store
-  carried old new (SetOption name value) replies run kept = set (is_open old.store.mode) old new name value replies run kept
+  carried old new (SetOption name value) replies run kept = set (is_open old.store.mode.phase) old new name value replies run kept
   carried old new (Tick ticks) replies run kept = same_store old new (ap (λ (s : Session). s.store) run.passes) kept
   carried old new command replies run kept = on_store old.store new.store command replies run.carries kept
 

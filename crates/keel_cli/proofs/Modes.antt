@@ -8,7 +8,7 @@ use Rattle.keel_machine.specs.declared.steps.WriteStep.{WriteStep}
 use Rattle.keel_machine.specs.declared.steps.WriteStep.TheVariants as step
 use Rattle.keel_machine.specs.Admission.{admit_after}
 use Rattle.keel_group.specs.Queue.{Ticketed}
-use Rattle.keel_machine.specs.States.{State, Act, MakeLog, SyncDirectory, AddRecords, SyncLog, Group}
+use Rattle.keel_machine.specs.States.{State, Act, MakeLog, SyncDirectory, AddRecords, SyncLog, Group, left_of}
 use Rattle.keel_machine.specs.Writing.{started, started_or, ready}
 use Rattle.keel_machine.specs.WritingAfter.{goes_on, act_done, act_failed, first_done, first_failed, group_done, group_failed, write_after}
 
@@ -49,7 +49,7 @@ mode_first_done group (act ∷ later) s = mode_done act group later s
 
 mode_group_done : (group : Option Group) (s : State) → (group_done group s).mode ≡ s.mode
 mode_group_done None s = refl
-mode_group_done (Some group) s = mode_first_done group group.left s
+mode_group_done (Some group) s = mode_first_done group (left_of group) s
 
 mode_first_failed : (group : Group) (left : List Act) (failure : Failure) (s : State) → (first_failed group left failure s).mode ≡ s.mode
 mode_first_failed group [] failure s = refl
@@ -57,7 +57,7 @@ mode_first_failed group (act ∷ later) failure s = mode_failed act group failur
 
 mode_group_failed : (group : Option Group) (failure : Failure) (s : State) → (group_failed group failure s).mode ≡ s.mode
 mode_group_failed None failure s = refl
-mode_group_failed (Some group) failure s = mode_first_failed group group.left failure s
+mode_group_failed (Some group) failure s = mode_first_failed group (left_of group) failure s
 
 pub mode_written : (s : State) (made : WriteStep) → (write_after s made).mode ≡ s.mode
 mode_written s (step.Moved job call) = mode_group_done (ready s).jobs.write.running (ready s) ∙ mode_ready s

@@ -11,7 +11,7 @@ use Rattle.keel_machine.specs.declared.answers.Admit.{Admit}
 use Rattle.keel_machine.specs.declared.answers.Admit.TheVariants as admit
 use Rattle.keel_machine.specs.declared.answers.Part.TheVariants as part
 use Rattle.keel_base.specs.Weight.{weight_of}
-use Rattle.keel_machine.specs.Admission.{is_key_length, size_refusal, refusal, standing}
+use Rattle.keel_machine.specs.Admission.{stopping, is_key_length, size_refusal, refusal, standing}
 use Rattle.keel_machine.specs.States.{State}
 use Rattle.keel_machine.specs.Tests.{first_some, when}
 
@@ -90,5 +90,5 @@ one_op_fits s batch n one is =
     let tests = in_order (size_refusal batch) _ (admit.BadSize part.Batch n) is in
     elim tests [
       | inl sizes ↦ op_sizes first.0 batch.sync n (subst (λ (ops : List Op). size_refusal (record { ops = ops; sync = batch.sync }) ≡ Some (admit.BadSize part.Batch n)) first.1 sizes)
-      | inr later ↦ no_size (standing s) _ _ _ (length s.writing.waiting) n later
+      | inr later ↦ no_size (stopping s) _ _ _ (length s.writing.waiting) n later
     ]

@@ -11,35 +11,31 @@ use Rattle.keel_machine.specs.declared.steps.WriteStep.{WriteStep}
 use Rattle.keel_machine.specs.declared.steps.WriteStep.TheVariants as step
 use Rattle.keel_group.proofs.Dividing.{all_of}
 use Rattle.keel_base.specs.declared.op.Op.{Op}
-use Rattle.keel_machine.specs.Admission.{last_seq, ops_of, standing_of, tickets_of_group, outcome_kept, is_on_its_way, outcome_of, queued}
+use Rattle.keel_machine.specs.Admission.{last_seq, tickets_of_group, outcome_kept, is_on_its_way, outcome_of, queued}
 use Rattle.keel_group.specs.Queue.{Ticketed}
-use Rattle.keel_machine.specs.States.{State, Unknown, Story, Group, Act, MakeLog, SyncDirectory, AddRecords, SyncLog}
+use Rattle.keel_machine.specs.States.{State, Group, Act, MakeLog, SyncDirectory, AddRecords, SyncLog, left_of}
 use Rattle.keel_machine.specs.Writing.{ready, started_or, group_bytes}
-use Rattle.keel_machine.specs.WritingAfter.{done_each, seq_behind, file_drawn, own_log, log_longer, handed_over, goes_on, act_done, act_failed, first_done, first_failed, group_done, group_failed, call_done, call_failed, queue_turned, write_after}
-use Rattle.keel_core.specs.Trails.{TrailShown, base_of}
-use Rattle.keel_core.specs.Views.{CoreView, StandsFor, state_of}
+use Rattle.keel_machine.specs.WritingAfter.{done_each, seq_behind, file_drawn, with_made, with_logs, logs_made, log_longer, batches_handed, goes_on, act_done, act_failed, first_done, first_failed, group_done, group_failed, call_done, call_failed, queue_turned, write_after}
+use Rattle.keel_core.specs.Views.{CoreView, StandsFor, AreAlike, state_of, own_state, nothing_beyond}
 use Rattle.keel_cli.specs.Stores.{IsTold, AreTold}
 
 -- ---- a state that the core stands for
 
-abbrev pub story_of : TrailShown → Story
-story_of trail = record { start = base_of trail; log = ops_of trail.log; limbo = ops_of trail.limbo; floor = trail.floor }
-
 abbrev pub state_at : CoreView → State
-state_at view = state_of view Unknown (story_of view.trail) (option_to_list view.standing)
+state_at view = own_state view
 
-standing_one : (standing : Option Failure) → standing ≡ standing_of (option_to_list standing)
-standing_one None = refl
-standing_one (Some failure) = refl
+alike_itself : (group : Option Group) → AreAlike group group
+alike_itself None = tt
+alike_itself (Some group) = record { tickets = refl; batches = refl; log = refl; left = refl }
 
 pub stands_at : (view : CoreView) → StandsFor view (state_at view)
 stands_at view = record {
-  footing = Unknown;
-  story = story_of view.trail;
-  failures = option_to_list view.standing;
+  beyond = nothing_beyond view;
   state_is = refl;
-  fits = record { earlier = []; log_is = refl; limbo_is = refl; floor_is = omega arith; point_is = refl };
-  standing = standing_one view.standing;
+  fits = record {
+    story = record { earlier = []; start_is = refl; log_is = refl; limbo_is = refl; floor_is = omega arith };
+    group = alike_itself view.group;
+  };
 }
 
 -- ---- lists of tickets and of outcomes
@@ -163,14 +159,12 @@ goes_on_fine ticket sync group (act ∷ later) s told holds = record { told = to
 
 act_done_fine : (ticket : ℕ) (act : Act) (group : Group) (later : List Act) (s : State)
     → AreTold s.writing.outcomes → any ticket (group.tickets ++ waiting_tickets s) ≡ true → Fine ticket (act_done act group later s)
-act_done_fine ticket MakeLog group later s told holds = goes_on_fine ticket false (record group { log = Some s.numbers.next_file }) later (file_drawn s) told holds
+act_done_fine ticket MakeLog group later s told holds = goes_on_fine ticket false (with_made (Some s.numbers.next_file) group) later (file_drawn s) told holds
 act_done_fine ticket SyncDirectory group later s told holds =
-    goes_on_fine ticket false (record group { log = None }) later (record s { log = own_log group.log }) told holds
+    goes_on_fine ticket false (with_made None group) later (with_logs (logs_made group.progress.log) s) told holds
 act_done_fine ticket AddRecords group later s told holds =
-    goes_on_fine ticket false (record group { batches = [] }) later (record s {
-      log = log_longer (length (group_bytes s group)) s.log;
-      story = handed_over (ops_of group.batches) s.story;
-    }) told holds
+    goes_on_fine ticket false (record group { batches = [] }) later
+    (batches_handed group (with_logs (log_longer (length (group_bytes s group)) s.segments.active.logs) s)) told holds
 act_done_fine ticket SyncLog group later s told holds = goes_on_fine ticket true group later s told holds
 
 act_failed_fine : (ticket : ℕ) (act : Act) (group : Group) (failure : Failure) (s : State)
@@ -209,7 +203,7 @@ group_done_fine : (ticket : ℕ) (running : Option Group) (s : State) → s.jobs
 group_done_fine ticket None s is told holds = same_fine ticket None s is told holds
 group_done_fine ticket (Some group) s is told holds =
     let same = same_fine ticket (Some group) s is told holds in
-    first_fine ticket group group.left s same told holds
+    first_fine ticket group (left_of group) s same told holds
 
 first_failed_fine : (ticket : ℕ) (group : Group) (left : List Act) (failure : Failure) (s : State)
     → Fine ticket s → AreTold s.writing.outcomes → any ticket (group.tickets ++ waiting_tickets s) ≡ true → Fine ticket (first_failed group left failure s)
@@ -220,7 +214,7 @@ group_failed_fine : (ticket : ℕ) (running : Option Group) (failure : Failure) 
     → AreTold s.writing.outcomes → on_way ticket running s → Fine ticket (group_failed running failure s)
 group_failed_fine ticket None failure s is told holds = same_fine ticket None s is told holds
 group_failed_fine ticket (Some group) failure s is told holds =
-    first_failed_fine ticket group group.left failure s (same_fine ticket (Some group) s is told holds) told holds
+    first_failed_fine ticket group (left_of group) failure s (same_fine ticket (Some group) s is told holds) told holds
 
 -- forming a group keeps every ticket on its way
 ready_keeps : (ticket : ℕ) (running : Option Group) (waiting : List Ticketed) (s : State) → s.jobs.write.running ≡ running → s.writing.waiting ≡ waiting
@@ -274,13 +268,11 @@ goes_on_told sync group [] s told = told_append s.writing.outcomes _ told (told_
 goes_on_told sync group (act ∷ later) s told = told
 
 act_done_told : (act : Act) (group : Group) (later : List Act) (s : State) → AreTold s.writing.outcomes → AreTold (act_done act group later s).writing.outcomes
-act_done_told MakeLog group later s told = goes_on_told false (record group { log = Some s.numbers.next_file }) later (file_drawn s) told
-act_done_told SyncDirectory group later s told = goes_on_told false (record group { log = None }) later (record s { log = own_log group.log }) told
+act_done_told MakeLog group later s told = goes_on_told false (with_made (Some s.numbers.next_file) group) later (file_drawn s) told
+act_done_told SyncDirectory group later s told = goes_on_told false (with_made None group) later (with_logs (logs_made group.progress.log) s) told
 act_done_told AddRecords group later s told =
-    goes_on_told false (record group { batches = [] }) later (record s {
-      log = log_longer (length (group_bytes s group)) s.log;
-      story = handed_over (ops_of group.batches) s.story;
-    }) told
+    goes_on_told false (record group { batches = [] }) later
+    (batches_handed group (with_logs (log_longer (length (group_bytes s group)) s.segments.active.logs) s)) told
 act_done_told SyncLog group later s told = goes_on_told true group later s told
 
 act_failed_told : (act : Act) (group : Group) (failure : Failure) (s : State) → AreTold s.writing.outcomes → AreTold (act_failed act group failure s).writing.outcomes
@@ -295,7 +287,7 @@ first_done_told group (act ∷ later) s told = act_done_told act group later s t
 
 group_done_told : (running : Option Group) (s : State) → AreTold s.writing.outcomes → AreTold (group_done running s).writing.outcomes
 group_done_told None s told = told
-group_done_told (Some group) s told = first_done_told group group.left s told
+group_done_told (Some group) s told = first_done_told group (left_of group) s told
 
 first_failed_told : (group : Group) (left : List Act) (failure : Failure) (s : State) → AreTold s.writing.outcomes → AreTold (first_failed group left failure s).writing.outcomes
 first_failed_told group [] failure s told = told
@@ -303,7 +295,7 @@ first_failed_told group (act ∷ later) failure s told = act_failed_told act gro
 
 group_failed_told : (running : Option Group) (failure : Failure) (s : State) → AreTold s.writing.outcomes → AreTold (group_failed running failure s).writing.outcomes
 group_failed_told None failure s told = told
-group_failed_told (Some group) failure s told = first_failed_told group group.left failure s told
+group_failed_told (Some group) failure s told = first_failed_told group (left_of group) failure s told
 
 pub write_told : (made : WriteStep) (s : State) → AreTold s.writing.outcomes → AreTold (write_after s made).writing.outcomes
 write_told (step.Moved job call) s told = group_done_told (ready s).jobs.write.running (ready s) (ready_told s.jobs.write.running s.writing.waiting s refl told)
@@ -371,11 +363,21 @@ waits_known ticket s told same =
 abbrev pub KnownIn : ℕ → CoreView → Type 0
 KnownIn ticket view = Known ticket (state_at view)
 
+alike_tickets : (group running : Option Group) → AreAlike group running → tickets_of_group running ≡ tickets_of_group group
+alike_tickets None None alike = refl
+alike_tickets None (Some running) alike = absurd alike
+alike_tickets (Some group) None alike = absurd alike
+alike_tickets (Some group) (Some running) alike = alike.tickets
+
 -- a core that stands for a fine state is fine
 pub fine_in : (ticket : ℕ) (view : CoreView) (s : State) → StandsFor view s → Fine ticket s → AreTold view.outcomes × KnownIn ticket view
 fine_in ticket view s stands fine =
-    let at : Fine ticket (state_of view stands.footing stands.story stands.failures) = subst (Fine ticket) stands.state_is fine in
-    (at.told, at.known)
+    let at : Fine ticket (state_of view stands.beyond) = subst (Fine ticket) stands.state_is fine in
+    let same = alike_tickets view.group stands.beyond.running stands.fits.group in (
+      at.told,
+      subst (λ (tickets : List ℕ). (any ticket (tickets ++ map (λ (member : Ticketed). member.ticket) view.waiting) ≡ true) ⊎ IsSome (outcome_kept ticket view.outcomes))
+          same at.known,
+    )
 
 pub told_in : (view : CoreView) (s : State) → StandsFor view s → AreTold s.writing.outcomes → AreTold view.outcomes
 told_in view s stands told = subst (λ (t : State). AreTold t.writing.outcomes) stands.state_is told

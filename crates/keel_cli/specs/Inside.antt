@@ -5,7 +5,7 @@ use Rattle.keel_base.specs.declared.op.Batch.{Batch}
 use Rattle.keel_machine.specs.declared.steps.WriteStep.{WriteStep}
 use Rattle.keel_machine.specs.declared.steps.WriteStep.TheVariants as step
 use Rattle.keel_machine.specs.States.{State}
-use Rattle.keel_recovery.specs.Machine.{is_open}
+use Rattle.keel_machine.specs.States.{is_open}
 use Rattle.keel_script.specs.declared.command.Command.{Command}
 use Rattle.keel_script.specs.declared.command.Command.TheVariants.{SetOption, Put, Del, Write, Drain, Tick}
 use Rattle.keel_script.specs.declared.reply.Reply.{Reply}
@@ -60,7 +60,7 @@ EachOnStore Has None old command replies new run = EachCall Has old command repl
 abbrev pub EachOf : (Has : OfStep) (old : Session) (command : Command) (replies : List Reply) (new : Session) → Carries old command replies new → Type 0
 EachOf Has old (SetOption name value) replies new run = Unit {0}
 EachOf Has old (Tick ticks) replies new run = Unit {0}
-EachOf Has old command replies new run = EachOnStore Has (rest_reply (is_open old.store.mode) command) old.store command replies new.store run.carries
+EachOf Has old command replies new run = EachOnStore Has (rest_reply (is_open old.store.mode.phase) command) old.store command replies new.store run.carries
 
 -- each that was made before memory ended at a command
 abbrev pub EachPartly : (Has : OfStep) (old : State) (command : Command) (new : State) → CallsPartly old command new → Type 0
@@ -72,7 +72,7 @@ EachPartly Has old command new cut = Unit {0}
 
 abbrev pub EachStoreCut : (Has : OfStep) (old : State) (command : Command) (new : State) → StoreCutShort old command new → Type 0
 EachStoreCut Has old command new (inl same) = Unit {0}
-EachStoreCut Has old command new (inr (inl carries)) = EachOnStore Has (rest_reply (is_open old.mode) command) old command carries.0 new carries.1
+EachStoreCut Has old command new (inr (inl carries)) = EachOnStore Has (rest_reply (is_open old.mode.phase) command) old command carries.0 new carries.1
 EachStoreCut Has old command new (inr (inr cut)) = EachPartly Has old command new cut.1
 
 abbrev pub EachCut : (Has : OfStep) (old : Session) (command : Command) (new : Session) → CutShort old command new → Type 0

@@ -16,7 +16,7 @@ use Rattle.keel_machine.specs.declared.answers.Scanned.{Scanned}
 use Rattle.keel_machine.specs.declared.answers.Scanned.TheVariants as scanned
 use Rattle.keel_machine.specs.States.{State}
 use Rattle.keel_machine.specs.Turns.{Turn, Opening, Getting, Scanning, Listing, Crashing}
-use Rattle.keel_recovery.specs.Machine.{is_open}
+use Rattle.keel_machine.specs.States.{is_open}
 use Rattle.keel_script.specs.declared.command.Command.{Command}
 use Rattle.keel_script.specs.declared.command.Command.TheVariants.{SetOption, Open, Put, Del, QueuePut, QueueDel, Write, Drain, Tick, Get, Scan, Files, Crash}
 use Rattle.keel_script.specs.declared.reply.Reply.{Reply}
@@ -153,7 +153,7 @@ RestsOrCalls (Some reply) old command replies new = Rests old reply replies new
 RestsOrCalls None old command replies new = Calls old command replies new
 
 abbrev pub CarriesOnStore : State → Command → List Reply → State → Type 0
-CarriesOnStore old command replies new = RestsOrCalls (rest_reply (is_open old.mode) command) old command replies new
+CarriesOnStore old command replies new = RestsOrCalls (rest_reply (is_open old.mode.phase) command) old command replies new
 
 -- ---- commands on the driver's own values
 
@@ -197,7 +197,7 @@ IsOnStore command = Unit {0}
 
 -- the command may be carried out with these replies, and leave that session
 abbrev pub Carries : Session → Command → List Reply → Session → Type 0
-Carries old (SetOption name value) replies new = SetRun (is_open old.store.mode) old name value replies new
+Carries old (SetOption name value) replies new = SetRun (is_open old.store.mode.phase) old name value replies new
 Carries old (Tick ticks) replies new = TickRun old ticks replies new
 Carries old command replies new = StoreRun old command replies new
 
@@ -217,7 +217,7 @@ CallsPartly old command new = ⊥
 
 -- where it makes calls
 abbrev pub Partly : State → Command → State → Type 0
-Partly old command new = (rest_reply (is_open old.mode) command ≡ None) × CallsPartly old command new
+Partly old command new = (rest_reply (is_open old.mode.phase) command ≡ None) × CallsPartly old command new
 
 -- one command after another
 abbrev pub Run : Session → List Command → List Reply → Session → Type 0

@@ -2,10 +2,10 @@
 use Rattle.std.specs.Prelude.{◌≡◌, ℕ, None, [], Option}
 use Rattle.keel_base.specs.declared.options.Options.{Options}
 use Rattle.keel_base.specs.Points.{origin}
-use Rattle.keel_base.specs.Options.{AreDefaults}
+use Rattle.keel_base.specs.Options.{AreDefaults, standard}
 use Rattle.keel_disk.specs.Told.{Told}
 use Rattle.keel_disk.specs.Seen.{Seen}
-use Rattle.keel_machine.specs.States.{State, Footing, Known, Unknown, Unopened, new_story}
+use Rattle.keel_machine.specs.States.{State, Footing, Known, Unknown, Shut, Nothing, new_story}
 use Rattle.keel_recovery.specs.Machine.{RestsIn}
 
 -- its store as the machine has it, the options for the next opening, and the tick
@@ -22,11 +22,11 @@ abbrev pub unopened : Footing → Seen → State
 unopened footing device = record {
   device = device;
   footing = footing;
-  mode = Unopened;
+  mode = record { phase = Shut; left = Nothing };
   story = new_story origin;
-  log = None;
+  segments = record { immutable = []; active = record { batches = []; logs = [] } };
   writing = record { waiting = []; outcomes = []; last_ticket = 0 };
-  failing = record { failures = [] };
+  failing = record { failures = []; paranoid = standard.paranoid };
   jobs = record { write = record { number = 0; running = None } };
   numbers = record { next_file = 1 };
 }

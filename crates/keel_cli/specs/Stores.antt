@@ -6,7 +6,7 @@ use Rattle.keel_machine.specs.States.{State}
 use Rattle.keel_machine.specs.declared.answers.Outcome.{Outcome}
 use Rattle.keel_machine.specs.declared.answers.Outcome.TheVariants as outcome
 use Rattle.keel_core.specs.Views.{CoreView, StandsFor}
-use Rattle.keel_recovery.specs.Machine.{is_open}
+use Rattle.keel_machine.specs.States.{is_open}
 use Rattle.keel_cli.specs.declared.store.Held.{Held}
 use Rattle.keel_cli.specs.declared.store.Held.TheVariants as held
 
@@ -23,7 +23,7 @@ view_of shown held.Lent = Lent
 
 -- no store is open, and the device shows this
 pub record IsShut (shows : Seen) (s : State) : Type 0 where
-  pub shut : is_open s.mode ≡ false
+  pub shut : is_open s.mode.phase ≡ false
   pub device : s.device ≡ shows
 
 -- the store stands for this state

@@ -42,9 +42,15 @@ enum Held<V: Device> {
 }
 
 impl<V: Device> Model for Store<V> {
+    ghost use Rattle.std.specs.Coded.{codes, coded_list, coded_ℕ};
+    ghost use Rattle.std.specs.FinMap as map;
+    ghost use Rattle.keel_base.specs.Keys.{key_cmp};
     ghost use Rattle.keel_cli.specs.Stores.{IsTidy, StoreView, view_of};
 
     ghost Value = { StoreView };
+
+    // The point where a trail starts has a finite map, whose code isn't found.
+    ghost coded = { Prim.hlevel (codes, map.code {R = key_cmp} (coded_list coded_ℕ) (coded_list coded_ℕ)) };
 
     ghost view = { λ store. view_of V.seen store.held };
 
