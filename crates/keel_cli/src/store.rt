@@ -15,7 +15,7 @@ ghost use Rattle.keel_cli.specs.Stores as view;
 
 use crate::Answer;
 use crate::draining::drain;
-use crate::putting::{delete_key, put_pair, queue_delete, queue_pair};
+use crate::putting::{key_batch, pair_batch, put_batch, queue_batch};
 use crate::stepping::write;
 use keel_base::{Bytes, Listing, OutOfMemory};
 use keel_core::{Core, Refused};
@@ -160,15 +160,27 @@ fn answer_on<V: Device>(
         → CarriedOut s command.now (view.Open core.new) result }
 {
     match command {
-        Command::Put { key, value, sync } => one(put_pair(alloc, core, key, value, *sync)),
-        Command::Del { key, sync } => one(delete_key(alloc, core, key, *sync)),
+        Command::Put { key, value, sync } => {
+            let put = pair_batch(alloc, key, value, *sync)?;
+            one(put_batch(alloc, core, put))
+        }
+        Command::Del { key, sync } => {
+            let del = key_batch(alloc, key, *sync)?;
+            one(put_batch(alloc, core, del))
+        }
         Command::QueuePut {
             key,
             value,
             sync,
             ..
-        } => one(queue_pair(alloc, core, key, value, *sync)),
-        Command::QueueDel { key, sync, .. } => one(queue_delete(alloc, core, key, *sync)),
+        } => {
+            let put = pair_batch(alloc, key, value, *sync)?;
+            one(queue_batch(core, put))
+        }
+        Command::QueueDel { key, sync, .. } => {
+            let del = key_batch(alloc, key, *sync)?;
+            one(queue_batch(core, del))
+        }
         Command::Write => one(write(alloc, core)),
         Command::Drain { moves } => one(drain(alloc, core, *moves)),
         Command::Get { key } => get(alloc, core, key),
