@@ -213,6 +213,7 @@ impl<V: Device> Store<V> {
         }
     }
 
+    /// Whether it is open.
     pub fn is_open(&self) -> bool
         ensures { result ≡ is_one_open self.now }
     {
@@ -241,7 +242,7 @@ impl<V: Device> Store<V> {
         }
     }
 
-    /// Opens a closed store. Where that is refused, it stays closed.
+    // Opens a closed store. Where that is refused, it stays closed.
     fn open(&mut self, alloc: Global) -> Result<Answer, OutOfMemory>
         requires { is_one_open self.old ≡ false }
         ensures { (s : State) → Stands self.old s → IsCovered s
@@ -261,7 +262,7 @@ impl<V: Device> Store<V> {
         }
     }
 
-    /// The files of the directory.
+    // The files of the directory.
     fn list(&mut self, alloc: Global) -> Result<Answer, OutOfMemory>
         ensures { (s : State) → Stands self.old s
             → CarriedOut s command.Files self.new result }
@@ -273,7 +274,7 @@ impl<V: Device> Store<V> {
         }
     }
 
-    /// Crashes a simulated device, which leaves the store closed.
+    // Crashes a simulated device, which leaves the store closed.
     fn crash(&mut self, alloc: Global, pick: Pick) -> Result<Answer, OutOfMemory>
         ensures { (s : State) → Stands self.old s → IsCovered s
             → CarriedOut s (command.Crash pick.dirops pick.keep pick.garbage pick.seed) self.new result }
