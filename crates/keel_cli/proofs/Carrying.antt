@@ -147,6 +147,11 @@ module _ (s : State) (command : Command) where
       → CarriedOut {E = OutOfMemory} s command store (Ok (answers.One reply_))
   rested store reply_ rests stands = (s, stands, rests_on_store s command reply_ (is_one_open store) (open_as store s stands) rests)
 
+  -- memory ended before the command made a call
+  pub cut_before : (core : CoreView) (a : Result Answer OutOfMemory) → IsErr a → StandsFor core s → CarriedOut s command (view.Open core) a
+  cut_before core (Ok y) err stands = no_err y err
+  cut_before core (Err e) err stands = (s, open_device core s stands, inl refl)
+
 -- the same of a step of a core
 map_ok : {P Q : Reply → Type 0} (r : Result Reply OutOfMemory) → ((x : Reply) → P x → Q x) → IfOk r P → IfOk r Q
 map_ok (Ok x) f h = f x h

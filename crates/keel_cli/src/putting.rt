@@ -1,5 +1,5 @@
 // A write of one op: it is admitted, and write steps are made until it has an outcome.
-ghost use Rattle.std.specs.Prelude.{◌≡◌, ◌≢◌, ◌⊎◌, ℕ, [], ◌∷◌, IfOk, IsErr, OnErr, Some, length};
+ghost use Rattle.std.specs.Prelude.{◌≡◌, ◌≢◌, ℕ, [], ◌∷◌, IfOk, IsErr, OnErr, Some, length};
 ghost use Rattle.keel_machine.specs.States.{State};
 ghost use Rattle.keel_machine.specs.declared.answers.Admit.TheVariants as admit;
 ghost use Rattle.keel_machine.specs.declared.answers.Part.TheVariants as parts;
@@ -58,8 +58,8 @@ fn ticket_or_reply(answer: Admit) -> Result<Admitted, OutOfMemory>
     }
 }
 
-// Admits a batch, and makes write steps until it has an outcome.
-fn put_batch<V: Device>(
+/// Admits a batch of one op, and makes write steps until it has an outcome.
+pub(crate) fn put_batch<V: Device>(
     alloc: Global,
     core: &mut Core<V>,
     batch: Batch,
@@ -95,8 +95,8 @@ fn put_batch<V: Device>(
     }
 }
 
-// Admits a batch, and makes no write step.
-fn queue_batch<V: Device>(core: &mut Core<V>, batch: Batch) -> Result<Reply, OutOfMemory>
+/// Admits a batch of one op, and makes no write step.
+pub(crate) fn queue_batch<V: Device>(core: &mut Core<V>, batch: Batch) -> Result<Reply, OutOfMemory>
     requires one { length batch.ops ≡ 1 }
     requires told { AreTold core.old.outcomes }
     ensures carried { (s : State) → StandsFor core.old s → IfOk result (λ reply. CoreLeads core.new (QueueRun s batch (reply ∷ []))) }
@@ -109,8 +109,13 @@ fn queue_batch<V: Device>(core: &mut Core<V>, batch: Batch) -> Result<Reply, Out
     }
 }
 
-// The batch that puts a value at a key.
-fn pair_batch(alloc: Global, key: &Bytes, value: &Bytes, sync: bool) -> Result<Batch, OutOfMemory>
+/// The batch that puts a value at a key.
+pub(crate) fn pair_batch(
+    alloc: Global,
+    key: &Bytes,
+    value: &Bytes,
+    sync: bool,
+) -> Result<Batch, OutOfMemory>
     ensures { IfOk result (λ batch. batch ≡ batch_of_put key.now value.now sync) }
 {
     let key = Bytes::from_slice(alloc, key.as_slice())?;
@@ -118,84 +123,10 @@ fn pair_batch(alloc: Global, key: &Bytes, value: &Bytes, sync: bool) -> Result<B
     one_op(alloc, Op::Put { key, value }, sync)
 }
 
-// The batch that deletes a key.
-fn key_batch(alloc: Global, key: &Bytes, sync: bool) -> Result<Batch, OutOfMemory>
+/// The batch that deletes a key.
+pub(crate) fn key_batch(alloc: Global, key: &Bytes, sync: bool) -> Result<Batch, OutOfMemory>
     ensures { IfOk result (λ batch. batch ≡ batch_of_del key.now sync) }
 {
     let key = Bytes::from_slice(alloc, key.as_slice())?;
     one_op(alloc, Op::Del { key }, sync)
-}
-
-/// Puts a value at a key, and says what became of it.
-pub(crate) fn put_pair<V: Device>(
-    alloc: Global,
-    core: &mut Core<V>,
-    key: &Bytes,
-    value: &Bytes,
-    sync: bool,
-) -> Result<Reply, OutOfMemory>
-    requires told { AreTold core.old.outcomes }
-    ensures carried { (s : State) → StandsFor core.old s → IfOk result (λ reply.
-        CoreLeads core.new (PutRun s (batch_of_put key.now value.now sync) (reply ∷ []))) }
-    ensures cut { (s : State) → StandsFor core.old s → OnErr result (
-        CoreLeads core.new (λ new. (new ≡ s) ⊎ PutCut s (batch_of_put key.now value.now sync) new)) }
-    ensures told { AreTold core.new.outcomes }
-{
-    let batch = pair_batch(alloc, key, value, sync)?;
-    put_batch(alloc, core, batch)
-}
-
-/// Deletes a key, and says what became of it.
-pub(crate) fn delete_key<V: Device>(
-    alloc: Global,
-    core: &mut Core<V>,
-    key: &Bytes,
-    sync: bool,
-) -> Result<Reply, OutOfMemory>
-    requires told { AreTold core.old.outcomes }
-    ensures carried { (s : State) → StandsFor core.old s → IfOk result (λ reply.
-        CoreLeads core.new (PutRun s (batch_of_del key.now sync) (reply ∷ []))) }
-    ensures cut { (s : State) → StandsFor core.old s → OnErr result (
-        CoreLeads core.new (λ new. (new ≡ s) ⊎ PutCut s (batch_of_del key.now sync) new)) }
-    ensures told { AreTold core.new.outcomes }
-{
-    let batch = key_batch(alloc, key, sync)?;
-    put_batch(alloc, core, batch)
-}
-
-/// Queues the put of a value at a key.
-pub(crate) fn queue_pair<V: Device>(
-    alloc: Global,
-    core: &mut Core<V>,
-    key: &Bytes,
-    value: &Bytes,
-    sync: bool,
-) -> Result<Reply, OutOfMemory>
-    requires told { AreTold core.old.outcomes }
-    ensures carried { (s : State) → StandsFor core.old s → IfOk result (λ reply.
-        CoreLeads core.new (QueueRun s (batch_of_put key.now value.now sync) (reply ∷ []))) }
-    ensures cut { (s : State) → StandsFor core.old s → OnErr result (
-        CoreLeads core.new (λ new. (new ≡ s) ⊎ QueueCut s (batch_of_put key.now value.now sync) new)) }
-    ensures told { AreTold core.new.outcomes }
-{
-    let batch = pair_batch(alloc, key, value, sync)?;
-    queue_batch(core, batch)
-}
-
-/// Queues the deletion of a key.
-pub(crate) fn queue_delete<V: Device>(
-    alloc: Global,
-    core: &mut Core<V>,
-    key: &Bytes,
-    sync: bool,
-) -> Result<Reply, OutOfMemory>
-    requires told { AreTold core.old.outcomes }
-    ensures carried { (s : State) → StandsFor core.old s → IfOk result (λ reply.
-        CoreLeads core.new (QueueRun s (batch_of_del key.now sync) (reply ∷ []))) }
-    ensures cut { (s : State) → StandsFor core.old s → OnErr result (
-        CoreLeads core.new (λ new. (new ≡ s) ⊎ QueueCut s (batch_of_del key.now sync) new)) }
-    ensures told { AreTold core.new.outcomes }
-{
-    let batch = key_batch(alloc, key, sync)?;
-    queue_batch(core, batch)
 }

@@ -15,7 +15,7 @@ ghost use Rattle.keel_cli.specs.Stores as view;
 
 use crate::Answer;
 use crate::draining::drain;
-use crate::putting::{delete_key, put_pair, queue_delete, queue_pair};
+use crate::putting::{key_batch, pair_batch, put_batch, queue_batch};
 use crate::stepping::write;
 use keel_base::{Bytes, Listing, OutOfMemory};
 use keel_core::{Core, Refused};
@@ -166,15 +166,27 @@ fn answer_on<V: Device>(
         → CarriedOut s command.now (view.Open core.new) result }
 {
     match command {
-        Command::Put { key, value, sync } => one(put_pair(alloc, core, key, value, *sync)),
-        Command::Del { key, sync } => one(delete_key(alloc, core, key, *sync)),
+        Command::Put { key, value, sync } => {
+            let put = pair_batch(alloc, key, value, *sync)?;
+            one(put_batch(alloc, core, put))
+        }
+        Command::Del { key, sync } => {
+            let del = key_batch(alloc, key, *sync)?;
+            one(put_batch(alloc, core, del))
+        }
         Command::QueuePut {
             key,
             value,
             sync,
             ..
-        } => one(queue_pair(alloc, core, key, value, *sync)),
-        Command::QueueDel { key, sync, .. } => one(queue_delete(alloc, core, key, *sync)),
+        } => {
+            let put = pair_batch(alloc, key, value, *sync)?;
+            one(queue_batch(core, put))
+        }
+        Command::QueueDel { key, sync, .. } => {
+            let del = key_batch(alloc, key, *sync)?;
+            one(queue_batch(core, del))
+        }
         Command::Write => one(write(alloc, core)),
         Command::Drain { moves } => one(drain(alloc, core, *moves)),
         Command::Get { key } => get(alloc, core, key),
@@ -207,6 +219,7 @@ impl<V: Device> Store<V> {
         }
     }
 
+    /// Whether it is open.
     pub fn is_open(&self) -> bool
         ensures { result ≡ is_one_open self.now }
     {
@@ -235,7 +248,7 @@ impl<V: Device> Store<V> {
         }
     }
 
-    /// Opens a closed store. Where that is refused, it stays closed.
+    // Opens a closed store. Where that is refused, it stays closed.
     fn open(&mut self, alloc: Global) -> Result<Answer, OutOfMemory>
         requires { is_one_open self.old ≡ false }
         ensures { (s : State) → Stands self.old s → IsCovered s
@@ -255,7 +268,7 @@ impl<V: Device> Store<V> {
         }
     }
 
-    /// The files of the directory.
+    // The files of the directory.
     fn list(&mut self, alloc: Global) -> Result<Answer, OutOfMemory>
         ensures { (s : State) → Stands self.old s
             → CarriedOut s command.Files self.new result }
@@ -267,7 +280,7 @@ impl<V: Device> Store<V> {
         }
     }
 
-    /// Crashes a simulated device, which leaves the store closed.
+    // Crashes a simulated device, which leaves the store closed.
     fn crash(&mut self, alloc: Global, pick: Pick) -> Result<Answer, OutOfMemory>
         ensures { (s : State) → Stands self.old s → IsCovered s
             → CarriedOut s (command.Crash pick.dirops pick.keep pick.garbage pick.seed) self.new result }

@@ -13,6 +13,3 @@ mod reader;
 
 pub use line::{LineEnd, MAX_INPUT, MAX_LINE};
 pub use reader::LineReader;
-
-#[cfg(test)]
-mod tests;

@@ -1,5 +1,6 @@
 // From a reply to its line.
 ghost use Rattle.std.specs.Prelude.{◌≡◌, ◌∷◌, [], ◌++◌, IfOk};
+ghost use Rattle.std.specs.Fmt.{decimal};
 ghost use Rattle.keel_base.specs.Name.{printed};
 ghost use Rattle.keel_script.specs.Replies.{told, failure_words, reply_line};
 
@@ -15,90 +16,61 @@ pub fn print_reply(alloc: Global, reply: &Reply) -> Result<Bytes, OutOfMemory>
     ensures { IfOk result (λ line. line ≡ reply_line reply.now) }
 {
     match reply {
-        Reply::OptionSet { name, value } => with_number(
-            alloc,
-            worded(alloc, b"option", name.name())?,
-            *value as u128,
-        ),
+        // Options, and whether the store is open.
+        Reply::OptionSet { name, value } => {
+            with_number(
+                alloc,
+                worded(alloc, b"option", name.name())?,
+                *value as u128,
+            )
+        }
         Reply::BadOption {
             name,
             least,
             greatest,
-        } => with_numbers(
-            alloc,
-            worded(alloc, b"bad-option", name.name())?,
-            &[*least as u128, *greatest as u128],
-        ),
+        } => {
+            let line = worded(alloc, b"bad-option", name.name())?;
+            with_numbers(alloc, line, &[*least as u128, *greatest as u128])
+        }
         Reply::IsOpen => start(alloc, b"is-open"),
         Reply::NotOpen => start(alloc, b"not-open"),
-        Reply::Opened { seq } => numbers(alloc, b"opened", &[*seq as u128]),
+        Reply::Opened { seq } => one(alloc, b"opened", *seq),
+        // Why the store did not open.
         Reply::RefusedDevice(fault) => worded(alloc, b"refused device", fault_name(*fault)),
         Reply::RefusedNoCurrent(name) => named(alloc, b"refused no-current", *name),
         Reply::RefusedBadCurrent(text) => with_text(start(alloc, b"refused bad-current")?, text),
-        Reply::RefusedDamagedManifest { at } => numbers(
-            alloc,
-            b"refused damaged-manifest",
-            &[*at as u128],
-        ),
-        Reply::RefusedMissingTable { number } => numbers(
-            alloc,
-            b"refused missing-table",
-            &[*number as u128],
-        ),
-        Reply::RefusedBadTable { number } => numbers(
-            alloc,
-            b"refused bad-table",
-            &[*number as u128],
-        ),
-        Reply::RefusedBadLog { number, at } => numbers(
-            alloc,
-            b"refused bad-log",
-            &[*number as u128, *at as u128],
-        ),
+        Reply::RefusedDamagedManifest { at } => one(alloc, b"refused damaged-manifest", *at),
+        Reply::RefusedMissingTable { number } => one(alloc, b"refused missing-table", *number),
+        Reply::RefusedBadTable { number } => one(alloc, b"refused bad-table", *number),
+        Reply::RefusedBadLog { number, at } => two(alloc, b"refused bad-log", *number, *at),
         Reply::RefusedLogGap {
             number,
             expected,
             found,
-        } => numbers(
-            alloc,
-            b"refused log-gap",
-            &[*number as u128, *expected as u128, *found as u128],
-        ),
-        Reply::PutOk { seq } => numbers(alloc, b"ok", &[*seq as u128]),
-        Reply::Failed(failure) => with_failure(start(alloc, b"failed")?, *failure),
-        Reply::Stopped(failure) => with_failure(start(alloc, b"stopped")?, *failure),
+        } => three(alloc, b"refused log-gap", *number, *expected, *found),
+        // What became of a write, or of asking for one.
+        Reply::PutOk { seq } => one(alloc, b"ok", *seq),
+        Reply::Failed(failure) => failed(alloc, b"failed", *failure),
+        Reply::Stopped(failure) => failed(alloc, b"stopped", *failure),
         Reply::Booting => start(alloc, b"booting"),
-        Reply::BadSizeKey { length } => numbers(alloc, b"bad-size key", &[*length as u128]),
-        Reply::BadSizeValue { length } => numbers(alloc, b"bad-size value", &[*length as u128]),
+        Reply::BadSizeKey { length } => one(alloc, b"bad-size key", *length),
+        Reply::BadSizeValue { length } => one(alloc, b"bad-size value", *length),
         Reply::Spent(counter) => worded(alloc, b"spent", counter_name(*counter)),
-        Reply::Full { active, immutables } => numbers(
-            alloc,
-            b"full",
-            &[*active as u128, *immutables as u128],
-        ),
-        Reply::QueueFull { waiting } => numbers(alloc, b"queue-full", &[*waiting as u128]),
-        Reply::Waiting { ticket } => numbers(alloc, b"waiting", &[*ticket as u128]),
-        Reply::Queued { ticket } => numbers(alloc, b"queued", &[*ticket as u128]),
+        Reply::Full { active, immutables } => two(alloc, b"full", *active, *immutables as u64),
+        Reply::QueueFull { waiting } => one(alloc, b"queue-full", *waiting as u64),
+        Reply::Waiting { ticket } => one(alloc, b"waiting", *ticket),
+        Reply::Queued { ticket } => one(alloc, b"queued", *ticket),
+        // What a step did, and why it did nothing.
         Reply::Idle => start(alloc, b"idle"),
-        Reply::Moved { job, call } => with_word(
-            numbers(alloc, b"moved", &[*job as u128])?,
-            call_name(*call),
-        ),
-        Reply::WriteDone { job, seq, batches } => numbers(
-            alloc,
-            b"done",
-            &[*job as u128, *seq as u128, *batches as u128],
-        ),
-        Reply::Turned { batches, failure } => with_failure(
-            numbers(alloc, b"turned", &[*batches as u128])?,
-            *failure,
-        ),
-        Reply::Cancelled { job, current } => numbers(
-            alloc,
-            b"cancelled",
-            &[*job as u128, *current as u128],
-        ),
-        Reply::JobDone { job } => numbers(alloc, b"done", &[*job as u128]),
+        Reply::Moved { job, call } => with_word(one(alloc, b"moved", *job)?, call_name(*call)),
+        Reply::WriteDone { job, seq, batches } => {
+            three(alloc, b"done", *job, *seq, *batches as u64)
+        }
+        Reply::Turned { batches, failure } => {
+            with_failure(one(alloc, b"turned", *batches as u64)?, *failure)
+        }
+        Reply::Cancelled { job, current } => two(alloc, b"cancelled", *job, *current),
+        Reply::JobDone { job } => one(alloc, b"done", *job),
         Reply::Blocked(slot) => worded(alloc, b"blocked", slot_name(*slot)),
         Reply::NoRoom {
             reserved,
@@ -106,61 +78,49 @@ pub fn print_reply(alloc: Global, reply: &Reply) -> Result<Bytes, OutOfMemory>
             buffer,
             tracked,
             limit,
-        } => numbers(
-            alloc,
-            b"no-room",
-            &[
+        } => {
+            let sums = [
                 *reserved,
                 *inputs,
                 *buffer as u128,
                 *tracked,
                 *limit as u128,
-            ],
-        ),
-        Reply::Wait { until } => numbers(alloc, b"wait", &[*until as u128]),
+            ];
+            numbers(alloc, b"no-room", &sums)
+        }
+        Reply::Wait { until } => one(alloc, b"wait", *until),
+        // Deletions.
         Reply::Purged(name) => named(alloc, b"purged", *name),
         Reply::Trashed(name) => named(alloc, b"trashed", *name),
-        Reply::Cut { name, length } => with_number(
-            alloc,
-            named(alloc, b"cut", *name)?,
-            *length as u128,
-        ),
+        Reply::Cut { name, length } => sized(alloc, b"cut", *name, *length),
         Reply::Removed(name) => named(alloc, b"removed", *name),
         Reply::DeleteRefused(fault) => worded(alloc, b"refused", fault_name(*fault)),
+        // Recovery.
         Reply::Nothing => start(alloc, b"nothing"),
-        Reply::Busy { job } => numbers(alloc, b"busy", &[*job as u128]),
-        Reply::Beyond(failure) => with_failure(start(alloc, b"beyond")?, *failure),
+        Reply::Busy { job } => one(alloc, b"busy", *job),
+        Reply::Beyond(failure) => failed(alloc, b"beyond", *failure),
         Reply::Cleared => start(alloc, b"cleared"),
-        Reply::Started { job } => numbers(alloc, b"started", &[*job as u128]),
-        Reply::JobCleared { job, steps } => numbers(
-            alloc,
-            b"cleared",
-            &[*job as u128, *steps as u128],
-        ),
-        Reply::NoSpaceYet { free, need } => numbers(
-            alloc,
-            b"no-space",
-            &[*free as u128, *need as u128],
-        ),
-        Reply::OverLimit { total, limit } => numbers(
-            alloc,
-            b"over-limit",
-            &[*total, *limit as u128],
-        ),
-        Reply::GivenUp { attempts } => numbers(alloc, b"given-up", &[*attempts as u128]),
+        Reply::Started { job } => one(alloc, b"started", *job),
+        Reply::JobCleared { job, steps } => two(alloc, b"cleared", *job, *steps),
+        Reply::NoSpaceYet { free, need } => two(alloc, b"no-space", *free, *need),
+        Reply::OverLimit { total, limit } => {
+            numbers(alloc, b"over-limit", &[*total, *limit as u128])
+        }
+        Reply::GivenUp { attempts } => one(alloc, b"given-up", *attempts as u64),
+        // Rounds of all actors, and time.
         Reply::Quiet => start(alloc, b"quiet"),
         Reply::More => start(alloc, b"more"),
-        Reply::Now { tick } => numbers(alloc, b"now", &[*tick as u128]),
+        Reply::Now { tick } => one(alloc, b"now", *tick),
+        // What was read, and why it was not.
         Reply::Value(value) => with_text(start(alloc, b"value")?, value),
         Reply::Absent => start(alloc, b"absent"),
         Reply::Row { key, value } => with_text(with_text(start(alloc, b"row")?, key)?, value),
-        Reply::Rows { count } => numbers(alloc, b"rows", &[*count as u128]),
+        Reply::Rows { count } => one(alloc, b"rows", *count),
         Reply::ErrorNone => start(alloc, b"error none"),
-        Reply::Error { failure, grade } => with_number(
-            alloc,
-            with_failure(start(alloc, b"error")?, *failure)?,
-            grade_number(*grade) as u128,
-        ),
+        Reply::Error { failure, grade } => {
+            let line = failed(alloc, b"error", *failure)?;
+            with_number(alloc, line, grade_number(*grade) as u128)
+        }
         Reply::Space {
             tracked,
             trash,
@@ -171,20 +131,14 @@ pub fn print_reply(alloc: Global, reply: &Reply) -> Result<Bytes, OutOfMemory>
             b"space",
             &[*tracked, *trash, *reserved, *limit as u128],
         ),
-        Reply::FileLine { name, size } => with_number(
-            alloc,
-            named(alloc, b"file", *name)?,
-            *size as u128,
-        ),
-        Reply::Files { count } => numbers(alloc, b"files", &[*count as u128]),
+        Reply::FileLine { name, size } => sized(alloc, b"file", *name, *size),
+        Reply::Files { count } => one(alloc, b"files", *count),
         Reply::ReadFault(fault) => worded(alloc, b"read-fault", fault_name(*fault)),
-        Reply::BadCheck { stored, computed } => numbers(
-            alloc,
-            b"bad-check",
-            &[*stored as u128, *computed as u128],
-        ),
-        Reply::BadShape { at } => numbers(alloc, b"bad-shape", &[*at as u128]),
-        Reply::AbsentTable { number } => numbers(alloc, b"absent-table", &[*number as u128]),
+        Reply::BadCheck { stored, computed } => {
+            two(alloc, b"bad-check", *stored as u64, *computed as u64)
+        }
+        Reply::BadShape { at } => one(alloc, b"bad-shape", *at),
+        Reply::AbsentTable { number } => one(alloc, b"absent-table", *number),
         Reply::Level {
             level,
             files,
@@ -194,27 +148,59 @@ pub fn print_reply(alloc: Global, reply: &Reply) -> Result<Bytes, OutOfMemory>
             active,
             immutables,
             waiting,
-        } => numbers(
+        } => three(
             alloc,
             b"memory",
-            &[*active as u128, *immutables as u128, *waiting as u128],
+            *active,
+            *immutables as u64,
+            *waiting as u64,
         ),
-        Reply::Limit { limit } => numbers(alloc, b"limit", &[*limit as u128]),
-        Reply::Closed { tickets } => numbers(alloc, b"closed", &[*tickets as u128]),
+        // The limit of an open store, its end, and the simulated device.
+        Reply::Limit { limit } => one(alloc, b"limit", *limit),
+        Reply::Closed { tickets } => one(alloc, b"closed", *tickets),
         Reply::Armed => start(alloc, b"armed"),
         Reply::NotSimulated => start(alloc, b"not-simulated"),
-        Reply::Capacity { bytes } => numbers(alloc, b"capacity", &[*bytes as u128]),
+        Reply::Capacity { bytes } => one(alloc, b"capacity", *bytes),
         Reply::Crashed => start(alloc, b"crashed"),
         Reply::NotBuilt => start(alloc, b"not-built"),
     }
 }
 
+// A line of one number.
+fn one(alloc: Global, head: &[u8], number: u64) -> Result<Bytes, OutOfMemory>
+    ensures { IfOk result (λ line. line ≡ told head.now (decimal number ∷ [])) }
+{
+    with_number(alloc, start(alloc, head)?, number as u128)
+}
+
+// A line of two numbers.
+fn two(alloc: Global, head: &[u8], first: u64, second: u64) -> Result<Bytes, OutOfMemory>
+    ensures { IfOk result (λ line. line ≡ told head.now (decimal first ∷ decimal second ∷ [])) }
+{
+    numbers(alloc, head, &[first as u128, second as u128])
+}
+
+// A line of three numbers.
+fn three(
+    alloc: Global,
+    head: &[u8],
+    first: u64,
+    second: u64,
+    third: u64,
+) -> Result<Bytes, OutOfMemory>
+    ensures { IfOk result (λ line. line ≡ told head.now (decimal first ∷ decimal second ∷ decimal third ∷ [])) }
+{
+    numbers(alloc, head, &[first as u128, second as u128, third as u128])
+}
+
+// A line of a word.
 fn worded(alloc: Global, head: &[u8], word: &[u8]) -> Result<Bytes, OutOfMemory>
     ensures { IfOk result (λ line. line ≡ told head.now (word.now ∷ [])) }
 {
     with_word(start(alloc, head)?, word)
 }
 
+// A line of the name of a file.
 fn named(alloc: Global, head: &[u8], name: FileName) -> Result<Bytes, OutOfMemory>
     ensures { IfOk result (λ line. line ≡ told head.now (printed name ∷ [])) }
 {
@@ -222,6 +208,21 @@ fn named(alloc: Global, head: &[u8], name: FileName) -> Result<Bytes, OutOfMemor
     with_word(start(alloc, head)?, name.as_slice())
 }
 
+// A line of the name of a file and a size.
+fn sized(alloc: Global, head: &[u8], name: FileName, size: u64) -> Result<Bytes, OutOfMemory>
+    ensures { IfOk result (λ line. line ≡ told head.now (printed name ∷ decimal size ∷ [])) }
+{
+    with_number(alloc, named(alloc, head, name)?, size as u128)
+}
+
+// A line of a failure.
+fn failed(alloc: Global, head: &[u8], failure: Failure) -> Result<Bytes, OutOfMemory>
+    ensures { IfOk result (λ line. line ≡ told head.now (failure_words failure)) }
+{
+    with_failure(start(alloc, head)?, failure)
+}
+
+// The line with a failure at its end.
 fn with_failure(line: Bytes, failure: Failure) -> Result<Bytes, OutOfMemory>
     ensures { IfOk result (λ longer. longer ≡ told line (failure_words failure)) }
 {

@@ -26,6 +26,3 @@ pub use printing::print_command;
 pub use reading::read_command;
 pub use reply::Reply;
 pub use words::is_blank;
-
-#[cfg(test)]
-mod tests;

@@ -19,18 +19,6 @@ fn output_in(rt: &HostRuntime, path: &str, budget: u64, input: &[u8]) -> Result<
 }
 
 #[test]
-fn a_path_without_folder_is_refused(rt: HostRuntime) -> Result<(), Fail> {
-    let path = own_path(&rt, "none")?;
-    let out = output_in(&rt, path.as_str(), 60, b"open\n")?;
-    assert_eq!(rt; out.as_slice(), b"refused device plain\n".as_slice());
-    fs::write(&rt, path.as_str(), "a file")?;
-    let out = output_in(&rt, path.as_str(), 60, b"open\n")?;
-    assert_eq!(rt; out.as_slice(), b"refused device plain\n".as_slice());
-    fs::remove_file(&rt, path.as_str())?;
-    Ok(())
-}
-
-#[test]
 fn a_folder_survives_the_run(rt: HostRuntime) -> Result<(), Fail> {
     let path = own_path(&rt, "kept")?;
     fs::create_dir(&rt, path.as_str())?;
@@ -41,22 +29,6 @@ fn a_folder_survives_the_run(rt: HostRuntime) -> Result<(), Fail> {
         out.as_slice(),
         b"opened 1\nvalue 1\nnot-simulated\n".as_slice()
     );
-    fs::remove_dir_all(&rt, path.as_str())?;
-    Ok(())
-}
-
-// The bytes of a folder are limited, and files that aren't the store's are left alone.
-#[test]
-fn a_folder_has_so_many_bytes(rt: HostRuntime) -> Result<(), Fail> {
-    let path = own_path(&rt, "full")?;
-    fs::create_dir(&rt, path.as_str())?;
-    let notes = format!(in rt.alloc(); "{path}/notes.txt")?;
-    fs::write(&rt, notes.as_str(), "kept")?;
-    let input = b"open\nput a 1\nput b 2\nput c 3\nfiles\n";
-    let out = output_in(&rt, path.as_str(), 60, input)?;
-    let told = b"opened 0\nok 1\nok 2\nfailed wal no-space\nfile 000001.log 48\nfiles 1\n";
-    assert_eq!(rt; out.as_slice(), told.as_slice());
-    assert!(rt; fs::exists(&rt, notes.as_str())?);
     fs::remove_dir_all(&rt, path.as_str())?;
     Ok(())
 }

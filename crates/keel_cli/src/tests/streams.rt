@@ -1,6 +1,6 @@
 // Streams that fail.
 use crate::run_words;
-use crate::tests::{sink_of, source_of, words_of};
+use crate::tests::{sink_of, source_of, word_of};
 use keel_simdisk::SimDisk;
 use std::alloc::Global;
 use std::process::Abort;
@@ -36,7 +36,7 @@ fn check<R: Abort + AllocGlobal>(
     wanted: &Wanted<'_>,
 ) -> Result<(), Fail> {
     let alloc = rt.alloc();
-    let words = words_of(alloc, &["run"])?;
+    let words = word_of(alloc, "run")?;
     let ended = run_words(
         alloc,
         &words,
@@ -61,23 +61,9 @@ fn a_run_is_answered(rt: HostRuntime) -> Result<(), Fail> {
     check(&rt, b"open\nput a 1 sync\nget a\n", NONE, &wanted)
 }
 
-#[test]
-fn a_read_fault_ends_a_run(rt: HostRuntime) -> Result<(), Fail> {
-    let failing = Failing {
-        read: Some(0),
-        ..NONE
-    };
-    let wanted = Wanted {
-        status: 4,
-        out: b"",
-        err: b"read fault\n",
-    };
-    check(&rt, b"open\n", failing, &wanted)
-}
-
 // What was taken before the fault was carried out.
 #[test]
-fn a_later_read_fault_ends_a_run(rt: HostRuntime) -> Result<(), Fail> {
+fn a_read_fault_ends_a_run(rt: HostRuntime) -> Result<(), Fail> {
     let failing = Failing {
         read: Some(1),
         ..NONE

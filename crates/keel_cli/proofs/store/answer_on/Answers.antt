@@ -1,46 +1,10 @@
-use Rattle.std.proofs.Common.{◌≡◌, ◌⊎◌, refl, inr}
-use Rattle.keel_script.specs.declared.command.Command.TheVariants.{Put, Del, Drain, Write}
+use Rattle.std.proofs.Common.{refl, inr}
+use Rattle.keel_script.specs.declared.command.Command.TheVariants.{Drain, Write}
 use Rattle.keel_cli.specs.Drains.{DrainRun, DrainCut}
 use Rattle.keel_cli.specs.Puts.{put_batch, del_batch, PutRun, PutCut, QueueRun, QueueCut}
 use Rattle.keel_cli.specs.Writes.{WriteRun, WriteCut}
-use Rattle.keel_cli.proofs.Carrying.{called}
+use Rattle.keel_cli.proofs.Carrying.{called, cut_before}
 use Rattle.keel_cli.proofs.store.answer_on.Goals as goal
-
-pub returns-in-Put-clause-out : goal.returns-in-Put-clause-out
-returns-in-Put-clause-out g c s stands =
-    let batch = put_batch c.in-Put.key c.in-Put.value c.in-Put.sync in
-    let ran = c.put_pair in
-    rw c.in-Put.is
-    (called s (Put c.in-Put.key c.in-Put.value c.in-Put.sync) c.args.core.now ran.new.core ran.result c.one.result
-    (PutRun s batch) (λ next. (next ≡ s) ⊎ PutCut s batch next) stands refl (λ replies next run. run) (λ next cut. cut)
-    c.one.ensures.ok c.one.ensures.err (ran.ensures.carried s stands) (ran.ensures.cut s stands))
-
-pub returns-in-Del-clause-out : goal.returns-in-Del-clause-out
-returns-in-Del-clause-out g c s stands =
-    let batch = del_batch c.in-Del.key c.in-Del.sync in
-    let ran = c.delete_key in
-    rw c.in-Del.is
-    (called s (Del c.in-Del.key c.in-Del.sync) c.args.core.now ran.new.core ran.result c.one-in-Del.result
-    (PutRun s batch) (λ next. (next ≡ s) ⊎ PutCut s batch next) stands refl (λ replies next run. run) (λ next cut. cut)
-    c.one-in-Del.ensures.ok c.one-in-Del.ensures.err (ran.ensures.carried s stands) (ran.ensures.cut s stands))
-
-pub returns-in-QueuePut-clause-out : goal.returns-in-QueuePut-clause-out
-returns-in-QueuePut-clause-out g c s stands =
-    let batch = put_batch c.in-QueuePut.key c.in-QueuePut.value c.in-QueuePut.sync in
-    let ran = c.queue_pair in
-    rw c.in-QueuePut.is
-    (called s _ c.args.core.now ran.new.core ran.result c.one-in-QueuePut.result
-    (QueueRun s batch) (λ next. (next ≡ s) ⊎ QueueCut s batch next) stands refl (λ replies next run. run) (λ next cut. cut)
-    c.one-in-QueuePut.ensures.ok c.one-in-QueuePut.ensures.err (ran.ensures.carried s stands) (ran.ensures.cut s stands))
-
-pub returns-in-QueueDel-clause-out : goal.returns-in-QueueDel-clause-out
-returns-in-QueueDel-clause-out g c s stands =
-    let batch = del_batch c.in-QueueDel.key c.in-QueueDel.sync in
-    let ran = c.queue_delete in
-    rw c.in-QueueDel.is
-    (called s _ c.args.core.now ran.new.core ran.result c.one-in-QueueDel.result
-    (QueueRun s batch) (λ next. (next ≡ s) ⊎ QueueCut s batch next) stands refl (λ replies next run. run) (λ next cut. cut)
-    c.one-in-QueueDel.ensures.ok c.one-in-QueueDel.ensures.err (ran.ensures.carried s stands) (ran.ensures.cut s stands))
 
 pub returns-in-Write-clause-out : goal.returns-in-Write-clause-out
 returns-in-Write-clause-out g c s stands =
@@ -57,3 +21,55 @@ returns-in-Drain-clause-out g c s stands =
     (called s (Drain c.in-Drain.moves) c.args.core.now ran.new.core ran.result c.one-in-Drain.result
     (DrainRun c.in-Drain.moves s) (DrainCut c.in-Drain.moves s) stands refl (λ replies next run. run) (λ next cut. inr cut)
     c.one-in-Drain.ensures.ok c.one-in-Drain.ensures.err (ran.ensures.carried s stands) (ran.ensures.cut s stands))
+
+pub returns-in_err-put-in-Put-clause-out : goal.returns-in_err-put-in-Put-clause-out
+returns-in_err-put-in-Put-clause-out g c s stands = cut_before s c.args.command.now c.args.core.now c.from_residual.result c.from_residual.ensures.0 stands
+
+pub returns-in_ok-put-in-Put-clause-out : goal.returns-in_ok-put-in-Put-clause-out
+returns-in_ok-put-in-Put-clause-out g c s stands =
+    let batch = put_batch c.in-Put.key c.in-Put.value c.in-Put.sync in
+    let ran = c.put_batch in
+    let is = c.in_ok-put-in-Put.ensures in
+    rw c.in-Put.is
+    (called s _ c.args.core.now ran.new.core ran.result c.one.result
+    (PutRun s batch) (PutCut s batch) stands refl (λ replies next run. run) (λ next cut. inr cut)
+    c.one.ensures.ok c.one.ensures.err (rw is at ran.ensures.carried s stands) (rw is at ran.ensures.cut s stands))
+
+pub returns-in_err-del-in-Del-clause-out : goal.returns-in_err-del-in-Del-clause-out
+returns-in_err-del-in-Del-clause-out g c s stands = cut_before s c.args.command.now c.args.core.now c.from_residual-in_err-del-in-Del.result c.from_residual-in_err-del-in-Del.ensures.0 stands
+
+pub returns-in_ok-del-in-Del-clause-out : goal.returns-in_ok-del-in-Del-clause-out
+returns-in_ok-del-in-Del-clause-out g c s stands =
+    let batch = del_batch c.in-Del.key c.in-Del.sync in
+    let ran = c.put_batch-in-Del in
+    let is = c.in_ok-del-in-Del.ensures in
+    rw c.in-Del.is
+    (called s _ c.args.core.now ran.new.core ran.result c.one-in-Del.result
+    (PutRun s batch) (PutCut s batch) stands refl (λ replies next run. run) (λ next cut. inr cut)
+    c.one-in-Del.ensures.ok c.one-in-Del.ensures.err (rw is at ran.ensures.carried s stands) (rw is at ran.ensures.cut s stands))
+
+pub returns-in_err-put-in-QueuePut-clause-out : goal.returns-in_err-put-in-QueuePut-clause-out
+returns-in_err-put-in-QueuePut-clause-out g c s stands = cut_before s c.args.command.now c.args.core.now c.from_residual-in_err-put-in-QueuePut.result c.from_residual-in_err-put-in-QueuePut.ensures.0 stands
+
+pub returns-in_ok-put-in-QueuePut-clause-out : goal.returns-in_ok-put-in-QueuePut-clause-out
+returns-in_ok-put-in-QueuePut-clause-out g c s stands =
+    let batch = put_batch c.in-QueuePut.key c.in-QueuePut.value c.in-QueuePut.sync in
+    let ran = c.queue_batch in
+    let is = c.in_ok-put-in-QueuePut.ensures in
+    rw c.in-QueuePut.is
+    (called s _ c.args.core.now ran.new.core ran.result c.one-in-QueuePut.result
+    (QueueRun s batch) (QueueCut s batch) stands refl (λ replies next run. run) (λ next cut. inr cut)
+    c.one-in-QueuePut.ensures.ok c.one-in-QueuePut.ensures.err (rw is at ran.ensures.carried s stands) (rw is at ran.ensures.cut s stands))
+
+pub returns-in_err-del-in-QueueDel-clause-out : goal.returns-in_err-del-in-QueueDel-clause-out
+returns-in_err-del-in-QueueDel-clause-out g c s stands = cut_before s c.args.command.now c.args.core.now c.from_residual-in_err-del-in-QueueDel.result c.from_residual-in_err-del-in-QueueDel.ensures.0 stands
+
+pub returns-in_ok-del-in-QueueDel-clause-out : goal.returns-in_ok-del-in-QueueDel-clause-out
+returns-in_ok-del-in-QueueDel-clause-out g c s stands =
+    let batch = del_batch c.in-QueueDel.key c.in-QueueDel.sync in
+    let ran = c.queue_batch-in-QueueDel in
+    let is = c.in_ok-del-in-QueueDel.ensures in
+    rw c.in-QueueDel.is
+    (called s _ c.args.core.now ran.new.core ran.result c.one-in-QueueDel.result
+    (QueueRun s batch) (QueueCut s batch) stands refl (λ replies next run. run) (λ next cut. inr cut)
+    c.one-in-QueueDel.ensures.ok c.one-in-QueueDel.ensures.err (rw is at ran.ensures.carried s stands) (rw is at ran.ensures.cut s stands))

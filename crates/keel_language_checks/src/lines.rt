@@ -1,9 +1,10 @@
-use crate::{LineEnd, LineReader};
+// The lines of an input, up to what ends them.
 use keel_base::{Bytes, Calls, Failed, MemSource, OutOfMemory, Source};
+use keel_lines::{LineEnd, LineReader};
 use std::alloc::Global;
 use std::test::Fail;
 
-/// The lines of a text with a bar behind each, and why there are no more. One call of its source fails.
+// The lines of a text with a bar behind each, and why there are no more. One call of its source fails.
 fn lines_of(
     alloc: Global,
     text: &[u8],
@@ -28,27 +29,22 @@ fn lines_of(
 }
 
 #[test]
-fn lines_are_given_up_to_what_ends_them(rt: HostRuntime) -> Result<(), Fail> {
-    let long = [b'x'; 8193];
-    let rows: [(&[u8], u64, &[u8], Option<LineEnd>); 8] = [
-        (b"", 9, b"", None),
-        (b"a\nbc", 9, b"a|bc|", None),
-        (b"\n\n a\r\n", 9, b"|| a\r|", None),
-        (b"a\nb\n", 0, b"", Some(LineEnd::Fault)),
-        (b"a\nbc", 1, b"a|", Some(LineEnd::Fault)),
-        (b"a\nbc", 2, b"a|bc|", None),
-        (&long, 9, b"", Some(LineEnd::TooLong)),
-        (&long, 2, b"", Some(LineEnd::Fault)),
-    ];
-    for (text, fails, lines, end) in rows {
-        let found = lines_of(rt.alloc(), text, fails).ok().ok_or("memory")?;
-        assert_eq!(rt; found.0.as_slice(), lines);
-        assert_eq!(rt; found.1, end);
-    }
+fn the_last_line_may_lack_its_newline(rt: HostRuntime) -> Result<(), Fail> {
+    let (lines, end) = lines_of(rt.alloc(), b"\n a\r\nbc", 9).ok().ok_or("memory")?;
+    assert_eq!(rt; lines.as_slice(), b"| a\r|bc|".as_slice());
+    assert_eq!(rt; end, None);
     Ok(())
 }
 
-/// So many pieces, of which two make a line of 8192 bytes with its newline, and then some bytes.
+#[test]
+fn a_fault_ends_the_lines(rt: HostRuntime) -> Result<(), Fail> {
+    let (lines, end) = lines_of(rt.alloc(), b"a\nbc", 1).ok().ok_or("memory")?;
+    assert_eq!(rt; lines.as_slice(), b"a|".as_slice());
+    assert_eq!(rt; end, Some(LineEnd::Fault));
+    Ok(())
+}
+
+// So many pieces, of which two make a line of 8192 bytes with its newline, and then some bytes.
 #[derive(Drop)]
 struct Pieces {
     count: u64,
@@ -79,7 +75,7 @@ impl Source for Pieces {
     }
 }
 
-/// How many lines the pieces have, and why there are no more.
+// How many lines the pieces have, and why there are no more.
 fn lines_in(alloc: Global, count: u64, last: usize) -> (u64, Option<LineEnd>) {
     let mut reader = LineReader::new(alloc, Pieces { count, last });
     let mut lines: u64 = 0;
@@ -95,17 +91,14 @@ fn lines_in(alloc: Global, count: u64, last: usize) -> (u64, Option<LineEnd>) {
 }
 
 #[test]
-fn an_input_has_at_most_so_many_bytes(rt: HostRuntime) {
-    let alloc = rt.alloc();
-    let rows = [
-        (16384, 0, 8192, None),
-        (16384, 1, 8192, Some(LineEnd::LongInput)),
-        (16383, 4096, 8193, None),
-        (16383, 4097, 8192, Some(LineEnd::LongInput)),
-        (16382, 9000, 8191, Some(LineEnd::LongInput)),
-        (16380, 9000, 8190, Some(LineEnd::TooLong)),
-    ];
-    for (count, last, lines, end) in rows {
-        assert_eq!(rt; lines_in(alloc, count, last), (lines, end));
-    }
+fn an_input_of_most_bytes_is_read(rt: HostRuntime) {
+    assert_eq!(rt; lines_in(rt.alloc(), 16384, 0), (8192, None));
+}
+
+#[test]
+fn a_byte_more_is_a_long_input(rt: HostRuntime) {
+    assert_eq!(rt;
+        lines_in(rt.alloc(), 16384, 1),
+        (8192, Some(LineEnd::LongInput))
+    );
 }
