@@ -13,3 +13,4 @@ pub mod Reaching
 pub mod Steadily
 pub mod Imaging
 pub mod Staying
+pub mod Meaning
