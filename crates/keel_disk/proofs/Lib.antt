@@ -14,3 +14,4 @@ pub mod Steadily
 pub mod Imaging
 pub mod Staying
 pub mod Meaning
+pub mod Settling

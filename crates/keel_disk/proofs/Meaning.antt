@@ -1,13 +1,11 @@
 -- Reads give what was meant, behind each answer of a call that appends to no spoilt file.
-use Rattle.std.specs.Prelude.{option_map}
-use Rattle.std.proofs.Common.{◌≡◌, ◌≢◌, ℕ, zero, suc, min, ◌+◌, ◌-◌, ◌<◌, ◌≤◌, Bool, true, false, List, [], ◌∷◌, ◌++◌, length, take, drop, Option, Some, None, Result, refl, sym, ap, subst, ◌∙◌, arith, if◌then◌else◌, take_all, take-append-drop, inl, inr, eqb, eqb-true, eq-eqb, set, get_or-set_other, get_or-set_same}
+use Rattle.std.proofs.Common.{◌≡◌, ℕ, zero, suc, min, ◌+◌, ◌-◌, ◌<◌, Bool, true, false, List, [], ◌∷◌, ◌++◌, length, take, drop, Option, Some, None, refl, sym, ap, subst, ◌∙◌, arith, if◌then◌else◌, take_all, take-append-drop, inl, inr, eqb, eqb-true, eq-eqb, set, get_or-set_other, get_or-set_same}
 use Rattle.std.proofs.lemmas.Bool.{cases_lt}
 use Rattle.std.proofs.lemmas.List.{append_assoc, append-nil, length-append, length-take, take-append-le, drop_all}
 use Rattle.std.proofs.Math.Seq.{take-append-add}
 use Rattle.keel_base.specs.declared.file_name.FileName.{FileName}
 use Rattle.keel_base.specs.Name.{name_eq}
 use Rattle.keel_base.proofs.Names.{name_eq-true}
-use Rattle.keel_disk.specs.declared.error.DiskError.{DiskError}
 use Rattle.keel_disk.specs.declared.state.File.{File}
 use Rattle.keel_disk.specs.declared.state.Operation.{Operation}
 use Rattle.keel_disk.specs.declared.state.Operation.TheVariants.{Link, Move, Unlink, Shorten}
@@ -16,9 +14,9 @@ use Rattle.keel_disk.specs.declared.change.Change.TheVariants.{Create, Append, S
 use Rattle.keel_disk.specs.Directory.{Named, find, unlinked, linked, linked_found, operated}
 use Rattle.keel_disk.specs.Image.{AllFirm}
 use Rattle.keel_disk.specs.State.{State, new_file, file_at, shortened, files_operated, files_operated_all, settled_through, directory_read, file_of, has_waiting_cut}
-use Rattle.keel_disk.specs.Step.{DiskStep, extended, spoiled, synced, cut_read, with_file, with_waiting, created}
-use Rattle.keel_disk.specs.Sound.{IsOneToOne, IsAtRest}
-use Rattle.keel_disk.specs.Steady.{ReadsAsMeant, AllRead, SparesSpoilt, AllReadStays, RestReads}
+use Rattle.keel_disk.specs.Step.{extended, spoiled, synced, cut_read, with_file, with_waiting}
+use Rattle.keel_disk.specs.Sound.{IsOneToOne}
+use Rattle.keel_disk.specs.Steady.{ReadsAsMeant, SparesSpoilt, AllReadStays, RestReads}
 use Rattle.keel_disk.proofs.Directories.{find-linked}
 use Rattle.keel_disk.proofs.Operating.{find-unlinked, find-linked_other, read-settled, read-more, file_at-created, is_below}
 use Rattle.keel_disk.proofs.Owning.{either_false, find-unlinked_same}

@@ -1,5 +1,5 @@
 -- Files whatever waiting operations are done.
-use Rattle.std.specs.Prelude.{◌≡◌, ℕ, ◌≤◌, false, List, [], ◌++◌, All, length, Option, Some, None, Result, Ok}
+use Rattle.std.specs.Prelude.{◌≡◌, ℕ, ◌+◌, ◌≤◌, false, List, [], ◌++◌, length, Option, Some, None, Result, Ok}
 use Rattle.keel_base.specs.declared.file_name.FileName.{FileName}
 use Rattle.keel_base.specs.Name.{name_eq}
 use Rattle.keel_disk.specs.declared.change.Change.{Change}
@@ -70,6 +70,10 @@ AllRead state =
     → ReadsAsMeant (file_at file (settled_through (length state.waiting) state).files)
 
 -- ---- calls
+
+-- where some first operations are firm, and then some of those that are left, so many together are
+abbrev pub SettledTwice : Type 0
+SettledTwice = (kept more : ℕ) (state : State) → settled_through more (settled_through kept state) ≡ settled_through (kept + more) state
 
 -- the call isn't about this name
 abbrev pub IsApart : FileName → Change → Type 0

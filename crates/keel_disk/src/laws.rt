@@ -1,6 +1,6 @@
 //! Laws of the model, each as the contract of a function.
 ghost use Rattle.keel_disk.specs.Laws.{CrashInsideCall, PlainCrashInsideCall, CallsKeepSound, CrashesComeToRest, OneImageAtRest};
-ghost use Rattle.keel_disk.specs.Steady.{SteadyStays, PresentStays, PresentBecomesSteady, AllReadStays, RestReads};
+ghost use Rattle.keel_disk.specs.Steady.{SettledTwice, SteadyStays, PresentStays, PresentBecomesSteady, AllReadStays, RestReads};
 
 /// A crash inside a call leaves what one before the call could leave, or one behind it where it is answered Ok.
 pub fn crash_inside_call()
@@ -21,6 +21,11 @@ pub fn crashes_come_to_rest()
 /// A crash of a device at rest leaves what reads give, and that isn't forged.
 pub fn one_image_at_rest()
     ensures { OneImageAtRest }
+{}
+
+/// Operations become firm in several goes as in one.
+pub fn settled_twice()
+    ensures { SettledTwice }
 {}
 
 /// A name whose file is sure, whatever waiting operations are done, stays so with its file by every call that isn't about

@@ -5,13 +5,11 @@ use Rattle.keel_base.specs.declared.failure.Failure.{Failure}
 use Rattle.keel_base.specs.declared.failure.Fault.{Fault}
 use Rattle.keel_base.specs.declared.op.Batch.{Batch}
 use Rattle.keel_base.specs.declared.op.Op.{Op}
-use Rattle.keel_base.specs.declared.file_name.FileName.TheVariants.{Log}
-use Rattle.keel_disk.specs.State.{State as Disk, file_at}
+use Rattle.keel_disk.specs.State.{State as Disk}
 use Rattle.keel_disk.specs.Sound.{IsOneToOne}
 use Rattle.keel_disk.specs.Step.{DiskStep}
-use Rattle.keel_disk.specs.Steady.{CutsExist, IsSteady, SparesSpoilt}
+use Rattle.keel_disk.specs.Steady.{CutsExist}
 use Rattle.keel_disk.specs.Seen.{Seen}
-use Rattle.keel_disk.proofs.Steadily.{steady_read}
 use Rattle.keel_machine.specs.Admission.{stopping}
 use Rattle.keel_machine.specs.States.{State, Footing, Mode, Story, SegmentLog, Segment, Writing, Failing, Group, Act, MakeLog, SyncDirectory, AddRecords, SyncLog, left_of}
 use Rattle.keel_machine.specs.Writing.{change_of}
@@ -48,33 +46,6 @@ module _ (device : Seen) (footing : Footing) (mode : Mode) (story : Story) (immu
 
   abbrev Before : Option Failure → List SegmentLog → Option ℕ → Type 0
   Before stops logs log = HoldsBy logs before story immutable own writing.waiting stops (Some (group_in log)) next_file
-
-  -- ---- the file that is appended to
-
-  abbrev Spares : List SegmentLog → Option ℕ → Act → Type 0
-  Spares logs log act = SparesSpoilt (change_of (state_in logs) (group_in log) act) before
-
-  -- no call on it failed
-  spares_log : (log : SegmentLog) (logs : List SegmentLog) → Before None (log ∷ logs) None → Spares (log ∷ logs) None AddRecords
-  spares_log log logs h = λ file named.
-      let going = h.order.0.going in
-      let there = subst (λ (n : ℕ). IsSteady (Log n) going.file before) h.number_is going.steady in
-      let found = steady_read (Log log.number) going.file before there in
-      let same : going.file ≡ file = let e = sym found ∙ named in cc in
-      subst (λ (n : ℕ). (file_at n before.files).spoilt ≡ false) same going.going.not_spoilt
-
-  pub spares_at : (stops : Option Failure) (logs : List SegmentLog) (log : Option ℕ) (act : Act) (later : List Act) → drop made plan ≡ act ∷ later → Before stops logs log → Spares logs log act
-  spares_at stops logs log MakeLog later e h = tt
-  spares_at stops logs log SyncDirectory later e h = tt
-  spares_at stops logs log SyncLog later e h = tt
-  spares_at None [] None AddRecords later e h =
-      let is : AddRecords ≡ MakeLog = first_act (drop made plan) AddRecords MakeLog later _ e h.order.1.left_is in absurd cc
-  spares_at None [] (Some log) AddRecords later e h =
-      let is : AddRecords ≡ SyncDirectory = first_act (drop made plan) AddRecords SyncDirectory later _ e h.order.1.0.left_is in absurd cc
-  spares_at None (log ∷ logs) None AddRecords later e h = spares_log log logs h
-  spares_at None (log ∷ logs) (Some other) AddRecords later e h = absurd h.order.1
-  spares_at (Some failure) [] log AddRecords later e h = none_some (group_in log) h.order
-  spares_at (Some failure) (first ∷ logs) log AddRecords later e h = none_some (group_in log) h.order
 
   -- ---- Ok
 
@@ -117,9 +88,6 @@ module _ (device : Seen) (footing : Footing) (mode : Mode) (story : Story) (immu
       let is = first_act (drop made plan) act SyncLog later [] e awaits.left_is in
       subst (Behind (log ∷ logs) None) (sym awaits.left_is)
       (sync_done before after one cuts story immutable own writing.waiting next_file tickets batches plan made log h awaits.all_handed (subst (Step (log ∷ logs) None) is step))
-
-  running_some : (stops : Option Failure) (group : Group) (P : Type 0) → Some group ≡ None → P
-  running_some stops group P e = none_some group e
 
   pub done_at : (stops : Option Failure) (logs : List SegmentLog) (log : Option ℕ) (act : Act) (later : List Act) → drop made plan ≡ act ∷ later → Before stops logs log
       → Step logs log act → StoredAt stops after (first_done (group_in log) (drop made plan) (state_in logs))
@@ -199,13 +167,6 @@ same_stops : (s next : State) → next.failing ≡ s.failing → stopping next �
 same_stops s next e = ap (λ (f : Failing). stopping (record s { failing = f })) e
 
 -- ---- with the state whole
-
-pub group_spares : (s : State) (group : Group) (act : Act) (later : List Act) → s.jobs.write.running ≡ Some group → left_of group ≡ act ∷ later → (before : Disk) → IsOneToOne before → CutsExist before
-    → IsStored before s → SparesSpoilt (change_of s group act) before
-group_spares s group act later runs next before one cuts h =
-    spares_at s.device s.footing s.mode s.story s.segments.immutable s.segments.active.batches s.writing s.failing s.jobs.write.number s.jobs.write.running s.numbers.next_file
-    group.tickets group.batches group.plan group.progress.made before before one cuts (stopping s) s.segments.active.logs group.progress.log act later next
-    (subst (λ (running : Option Group). IsStoredIn before s.story s.segments s.writing.waiting (stopping s) running s.numbers.next_file) runs h)
 
 pub group_done_stored : (s : State) (group : Group) (act : Act) (later : List Act) → s.jobs.write.running ≡ Some group → left_of group ≡ act ∷ later → (before after : Disk) → IsOneToOne before → CutsExist before
     → IsStored before s → DiskStep before (change_of s group act) went_well after → IsStored after (group_done s.jobs.write.running s)

@@ -13,7 +13,6 @@ use Rattle.keel_disk.specs.Plain.{image_read}
 use Rattle.keel_disk.specs.Sound.{IsAtRest}
 use Rattle.keel_disk.specs.Told.{Told, Changes}
 use Rattle.keel_disk.specs.Seen.{Seen}
-use Rattle.keel_disk.proofs.Meaning.{all_read_stays, rest_reads}
 use Rattle.keel_disk.proofs.Staying.{GivesNames, one_stays, cuts_stay}
 use Rattle.keel_machine.specs.declared.answers.Admit.{Admit}
 use Rattle.keel_machine.specs.declared.answers.Admit.TheVariants as admit
@@ -39,7 +38,7 @@ use Rattle.keel_recovery.specs.Machine.{MayCall, RestsIn, StandsIn, NoLogYet, Is
 use Rattle.keel_recovery.specs.Standing.{Stands}
 use Rattle.keel_recovery.proofs.Acting.{went_well, went_wrong}
 use Rattle.keel_recovery.proofs.Crashing.{crash_keeps}
-use Rattle.keel_recovery.proofs.Grouping.{group_spares, group_done_stored, group_failed_stored}
+use Rattle.keel_recovery.proofs.Grouping.{group_done_stored, group_failed_stored}
 use Rattle.keel_recovery.proofs.Kept.{kept_stands}
 use Rattle.keel_recovery.proofs.Opened.{opening_keeps, first_stands}
 use Rattle.keel_recovery.proofs.Sizes.{sizes_within}
@@ -111,7 +110,7 @@ quiet_keeps s next is mode footing same keep h =
 same_kept : (opens left : Bool) (told : Told) (s : State) (device : Seen) → KeptBy opens left told.state s → KeptBy opens left told.state (with_device device s)
 same_kept false false told s device h = h
 same_kept false true told s device h = h
-same_kept true left told s device h = record { one_to_one = h.one_to_one; cuts = h.cuts; read = h.read; numbered = h.numbered; stored = h.stored }
+same_kept true left told s device h = record { one_to_one = h.one_to_one; cuts = h.cuts; numbered = h.numbered; stored = h.stored }
 
 same_by : (f : Footing) (told : Option Told) (s : State) (device : Seen) → IsCoveredBy f s.mode told s → IsCoveredBy f s.mode told (with_device device s)
 same_by Unknown told s device h = tt
@@ -248,7 +247,6 @@ ready_kept : (state : Disk) (s : State) (held : Option ℕ) → write_rest s hel
 ready_kept state s held none h = record {
   one_to_one = h.one_to_one;
   cuts = h.cuts;
-  read = h.read;
   numbered = omega (arith, h.numbered, files_started_or s.jobs.write.running s);
   stored = ready_keeps state s held none h.stored;
 }
@@ -281,8 +279,6 @@ done_keeps s held group act later device made is h =
     (λ before behind kept step. record {
       one_to_one = one_stays (change_of (ready s) group act) went_well before behind (gives_names s held group act later None device made kept.numbered) kept.one_to_one step;
       cuts = cuts_stay (change_of (ready s) group act) went_well before behind kept.one_to_one kept.cuts step;
-      read = all_read_stays (change_of (ready s) group act) went_well before behind kept.one_to_one
-          (group_spares (ready s) group act later made.makes.group_is made.makes.next before kept.one_to_one kept.cuts kept.stored) kept.read step;
       numbered = omega (arith, kept.numbered, files_done running (ready s));
       stored = group_done_stored (ready s) group act later made.makes.group_is made.makes.next before behind kept.one_to_one kept.cuts kept.stored step;
     }) h
@@ -297,8 +293,6 @@ failed_keeps s held failure group act later fault device failure_is made is h =
     (λ before behind kept step. record {
       one_to_one = one_stays (change_of (ready s) group act) (went_wrong fault) before behind (gives_names s held group act later (Some fault) device made kept.numbered) kept.one_to_one step;
       cuts = cuts_stay (change_of (ready s) group act) (went_wrong fault) before behind kept.one_to_one kept.cuts step;
-      read = all_read_stays (change_of (ready s) group act) (went_wrong fault) before behind kept.one_to_one
-          (group_spares (ready s) group act later made.makes.group_is made.makes.next before kept.one_to_one kept.cuts kept.stored) kept.read step;
       numbered = omega (arith, kept.numbered, files_failed running (failure_of fault) (ready s));
       stored = group_failed_stored (ready s) group act later fault made.makes.group_is made.makes.next before behind kept.one_to_one kept.cuts kept.stored step;
     }) h)
@@ -307,7 +301,6 @@ turned_kept : (state : Disk) (s : State) (failure : Failure) (device : Seen) →
 turned_kept state s failure device h = record {
   one_to_one = h.one_to_one;
   cuts = h.cuts;
-  read = h.read;
   numbered = h.numbered;
   stored = turned_keeps s.segments.active.logs state s.story s.segments.immutable s.segments.active.batches s.writing.waiting (stopping s) s.jobs.write.running s.numbers.next_file h.stored;
 }
@@ -338,7 +331,6 @@ queued_kept : (state : Disk) (s : State) (batch : Batch) (device : Seen) → ref
 queued_kept state s batch device none h = record {
   one_to_one = h.one_to_one;
   cuts = h.cuts;
-  read = h.read;
   numbered = h.numbered;
   stored = queued_keeps s.segments.active.logs state s.story s.segments.immutable s.segments.active.batches s.writing.waiting (stopping s) s.jobs.write.running s.numbers.next_file (s.writing.last_ticket + 1) batch
       (sizes_within batch (sizes_none s batch none)) (within_sequences s batch none) h.stored;
@@ -380,7 +372,6 @@ opened_kept told found story s device rest after stands cause runs is =
     record {
       one_to_one = rest.sound.one_to_one;
       cuts = λ file _. ap (has_waiting_cut file) rest.settled.none_waits;
-      read = rest_reads told.state rest;
       numbered = runs.next_least;
       stored = subst (λ (t : Story). NoLogYet told.state t [] [] [] None None found.next_file) (sym is) stored;
     }
@@ -434,7 +425,7 @@ answer_keeps s (Admitting batch answer) device may a h = admit_keeps s batch ans
 answer_keeps s (Writing held answer) device may a h = write_keeps s held answer device may a h
 answer_keeps s (TakingOutcome ticket outcome) device may a h =
     quiet_keeps s (with_device device (without_outcome ticket s)) may refl refl (ap (λ (d : Seen). d.told) a.1)
-    (λ state kept. record { one_to_one = kept.one_to_one; cuts = kept.cuts; read = kept.read; numbered = kept.numbered; stored = kept.stored }) h
+    (λ state kept. record { one_to_one = kept.one_to_one; cuts = kept.cuts; numbered = kept.numbered; stored = kept.stored }) h
 answer_keeps s (Getting key got) device may a h = same_keeps s device a.1.same h
 answer_keeps s (Scanning from to scanned) device may a h = same_keeps s device a.1.same h
 answer_keeps s (Listing answer) device may a h = same_keeps s device a.quiet.same h

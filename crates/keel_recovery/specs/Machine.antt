@@ -10,7 +10,7 @@ use Rattle.keel_disk.specs.State.{State as Disk, directory_read}
 use Rattle.keel_disk.specs.Plain.{image_read}
 use Rattle.keel_disk.specs.Told.{Told, Crashes}
 use Rattle.keel_disk.specs.Sound.{IsOneToOne, IsAtRest}
-use Rattle.keel_disk.specs.Steady.{CutsExist, AllRead}
+use Rattle.keel_disk.specs.Steady.{CutsExist}
 use Rattle.keel_reading.specs.declared.refusal.OpenRefusal.{OpenRefusal}
 use Rattle.keel_reading.specs.declared.refusal.OpenRefusal.TheVariants as refusal
 use Rattle.keel_reading.specs.Answers.{AreNames}
@@ -156,12 +156,10 @@ IsStoredIn state story segments waiting stops running next_file =
 abbrev pub IsStored : Disk → State → Type 0
 IsStored state s = IsStoredIn state s.story s.segments s.writing.waiting (stopping s) s.jobs.write.running s.numbers.next_file
 
--- the device of an open store: names and files go one to one, reads give what was meant, the next file has a number, and
--- its logs hold the story
+-- the device of an open store: names and files go one to one, the next file has a number, and its logs hold the story
 pub record IsKept (state : Disk) (s : State) : Type 0 where
   pub one_to_one : IsOneToOne state
   pub cuts : CutsExist state
-  pub read : AllRead state
   pub numbered : 1 ≤ s.numbers.next_file
   pub stored : IsStored state s
 
