@@ -61,7 +61,7 @@ shows_alike : (R : Showing) → IsOfCrashes R → (files others : List File) (fi
 shows_alike R alike files others firm waiting image same (count, shown) =
     (count, alike (files_operated_all (take count waiting) files) (files_operated_all (take count waiting) others) (operated_all (take count waiting) firm) image (same_operated (take count waiting) files others same) shown)
 
-files_operated_all-append : (first next : List Operation) (files : List File) → files_operated_all (first ++ next) files ≡ files_operated_all next (files_operated_all first files)
+pub files_operated_all-append : (first next : List Operation) (files : List File) → files_operated_all (first ++ next) files ≡ files_operated_all next (files_operated_all first files)
 files_operated_all-append [] next files = refl
 files_operated_all-append (operation ∷ first) next files = files_operated_all-append first next (files_operated operation files)
 

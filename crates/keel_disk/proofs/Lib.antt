@@ -13,3 +13,5 @@ pub mod Reaching
 pub mod Steadily
 pub mod Imaging
 pub mod Staying
+pub mod Meaning
+pub mod Settling

@@ -1,5 +1,5 @@
 -- Files whatever waiting operations are done.
-use Rattle.std.specs.Prelude.{◌≡◌, ℕ, ◌≤◌, false, List, [], ◌++◌, All, length, Option, Some, None, Result}
+use Rattle.std.specs.Prelude.{◌≡◌, ℕ, ◌+◌, ◌≤◌, false, List, [], ◌++◌, length, Option, Some, None, Result, Ok}
 use Rattle.keel_base.specs.declared.file_name.FileName.{FileName}
 use Rattle.keel_base.specs.Name.{name_eq}
 use Rattle.keel_disk.specs.declared.change.Change.{Change}
@@ -9,7 +9,7 @@ use Rattle.keel_disk.specs.declared.state.File.{File}
 use Rattle.keel_disk.specs.Directory.{Named, find}
 use Rattle.keel_disk.specs.State.{State, file_at, settled_through, file_of, has_waiting_cut}
 use Rattle.keel_disk.specs.Step.{DiskStep}
-use Rattle.keel_disk.specs.Sound.{IsOneToOne}
+use Rattle.keel_disk.specs.Sound.{IsOneToOne, IsAtRest}
 
 -- ---- names
 
@@ -63,11 +63,17 @@ pub record ReadsAsMeant (file : File) : Type 0 where
   pub firm_read : file.firm ≤ length file.read
   pub whole : file.spoilt ≡ false → unread ≡ []
 
--- so do those of each file, where all waiting operations are done
+-- so do those of each file that has a name as is read, where all waiting operations are done
 abbrev pub AllRead : State → Type 0
-AllRead state = All ReadsAsMeant (settled_through (length state.waiting) state).files
+AllRead state =
+    (name : FileName) (file : ℕ) → file_of name state ≡ Some file
+    → ReadsAsMeant (file_at file (settled_through (length state.waiting) state).files)
 
 -- ---- calls
+
+-- where some first operations are firm, and then some of those that are left, so many together are
+abbrev pub SettledTwice : Type 0
+SettledTwice = (kept more : ℕ) (state : State) → settled_through more (settled_through kept state) ≡ settled_through (kept + more) state
 
 -- the call isn't about this name
 abbrev pub IsApart : FileName → Change → Type 0
@@ -92,3 +98,24 @@ PresentStays =
     (name : FileName) (file : ℕ) (change : Change) (answer : Result (Unit {0}) DiskError) (state after : State)
     → IsOneToOne state → IsApart name change → IsPresent name file state → DiskStep state change answer after
     → IsPresent name file after × (file_at file after.files ≡ file_at file state.files)
+
+-- behind a sync of the directory that was answered Ok each name that is present is steady, and its file as it was
+abbrev pub PresentBecomesSteady : Type 0
+PresentBecomesSteady =
+    (name : FileName) (file : ℕ) (state after : State) → IsPresent name file state → DiskStep {T = Unit {0}} state SyncDir (Ok tt) after
+    → IsSteady name file after × (file_at file after.files ≡ file_at file state.files)
+
+-- nothing is appended to a file on which a call failed
+abbrev pub SparesSpoilt : Change → State → Type 0
+SparesSpoilt (Append name bytes) state = (file : ℕ) → file_of name state ≡ Some file → (file_at file state.files).spoilt ≡ false
+SparesSpoilt change state = Unit {0}
+
+-- Reads go on to give what was meant behind each answer of every other call.
+abbrev pub AllReadStays : Type 0
+AllReadStays =
+    (change : Change) (answer : Result (Unit {0}) DiskError) (state after : State)
+    → IsOneToOne state → SparesSpoilt change state → AllRead state → DiskStep state change answer after → AllRead after
+
+-- those of a device at rest do
+abbrev pub RestReads : Type 0
+RestReads = (state : State) → IsAtRest state → AllRead state

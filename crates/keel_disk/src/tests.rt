@@ -13,4 +13,8 @@ fn the_laws_hold() {
     laws::calls_keep_sound();
     laws::crashes_come_to_rest();
     laws::one_image_at_rest();
+    laws::names_stay();
+    laws::present_becomes_steady();
+    laws::all_read_stays();
+    laws::settled_twice();
 }

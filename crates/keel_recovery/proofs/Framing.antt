@@ -1,6 +1,6 @@
 -- Calls that nothing kept needs.
 use Rattle.std.specs.List.{AllByRecursion}
-use Rattle.std.proofs.Common.{◌≡◌, inl, inr, ℕ, ◌<◌, ◌≤◌, Bool, true, false, List, [], ◌∷◌, length, take, Option, Some, None, refl, sym, ap, subst, ◌∙◌, arith, if◌then◌else◌, take_all, eqb}
+use Rattle.std.proofs.Common.{◌≡◌, inl, inr, ℕ, ◌<◌, ◌≤◌, Bool, true, false, List, [], ◌∷◌, length, take, Option, Some, None, refl, sym, subst, ◌∙◌, arith, if◌then◌else◌, eqb}
 use Rattle.keel_base.specs.declared.file_name.FileName.{FileName}
 use Rattle.keel_base.specs.declared.file_name.FileName.TheVariants.{Log}
 use Rattle.keel_base.specs.Points.{Point}
@@ -14,18 +14,19 @@ use Rattle.keel_disk.specs.Directory.{Named, find, unlinked, linked, linked_foun
 use Rattle.keel_disk.specs.Sound.{IsOneToOne}
 use Rattle.keel_disk.specs.State.{State, file_at}
 use Rattle.keel_disk.specs.Step.{DiskStep, synced, spoiled, cut_read}
-use Rattle.keel_disk.specs.Steady.{Always, IsApart, IsHeld}
+use Rattle.keel_disk.specs.Steady.{Always, IsApart, IsHeld, SparesSpoilt}
 use Rattle.keel_disk.proofs.Directories.{find-linked}
 use Rattle.keel_disk.proofs.Operating.{find-unlinked, find-linked_other, file_at-created}
+use Rattle.keel_disk.proofs.Meaning.{all_read_stays}
 use Rattle.keel_disk.proofs.Owning.{either_false, find-unlinked_same}
 use Rattle.keel_disk.proofs.Reaching.{Reaches, reached}
 use Rattle.keel_disk.proofs.Steadily.{KeptBy, always_stays, absent_stays, steady_stays}
 use Rattle.keel_reading.specs.Answers.{IsLog}
 use Rattle.keel_reading.specs.Logs.{log_bytes}
 use Rattle.keel_recovery.specs.Calls.{Answer, IsFree, IsOfFree, FrameKeeps}
-use Rattle.keel_recovery.specs.Chains.{Chained, is_chained, IsEmpty, OthersEmpty}
+use Rattle.keel_recovery.specs.Chains.{Chained, is_chained, OthersEmpty}
 use Rattle.keel_recovery.specs.Keeping.{IsFirmLog, AreLogs, IsBase, point_at}
-use Rattle.keel_recovery.proofs.Emptying.{empty_set, empty_operated}
+use Rattle.keel_recovery.proofs.Emptying.{IsEmpty, empty_set, empty_operated}
 use Rattle.keel_recovery.proofs.Passing.{AllPass, chained_passes, differs_back, less_differs}
 
 -- ---- the base
@@ -160,21 +161,18 @@ abbrev StaysEmpty : State → State → Type 0
 StaysEmpty state after = (file : ℕ) → IsEmpty (file_at file state.files) → IsEmpty (file_at file after.files)
 
 synced_empty : (file : File) → IsEmpty file → IsEmpty (synced file)
-synced_empty file h = elim file.spoilt as (λ b. IsEmpty (if b then file else record file { firm = length file.meant })) [ true ↦ h | false ↦ record { meant = h.meant; read = h.read } ]
-
-cut_read_empty : (size : ℕ) (file : File) → IsEmpty file → IsEmpty (cut_read size file)
-cut_read_empty size file h = record { meant = h.meant; read = ap (take size) h.read ∙ take_all size [] (omega arith) }
+synced_empty file h = elim file.spoilt as (λ b. IsEmpty (if b then file else record file { firm = length file.meant })) [ true ↦ h | false ↦ h ]
 
 empty_reaches : (least : ℕ) (logs : List Chained) (change : Change) (state : State) → IsOfFree least logs change → Reaches (StaysEmpty state) change state
 empty_reaches least logs (Create name) state free = λ file h. subst IsEmpty (sym (file_at-created file state.files)) h
 empty_reaches least logs (Append name bytes) state free = absurd free
 empty_reaches least logs (Sync name) state free = λ number found. (
   λ file h. empty_set file number (synced (file_at number state.files)) state.files (synced_empty (file_at number state.files)) h,
-  λ file h. empty_set file number (spoiled (file_at number state.files)) state.files (λ e. record { meant = e.meant; read = e.read }) h,
+  λ file h. empty_set file number (spoiled (file_at number state.files)) state.files (λ e. e) h,
 )
 empty_reaches least logs (Rename from to) state free = λ file h. h
 empty_reaches least logs (Remove name) state free = λ file h. h
-empty_reaches least logs (Cut name size) state free = λ number found file h. empty_set file number (cut_read size (file_at number state.files)) state.files (cut_read_empty size (file_at number state.files)) h
+empty_reaches least logs (Cut name size) state free = λ number found file h. empty_set file number (cut_read size (file_at number state.files)) state.files (λ e. e) h
 empty_reaches least logs SyncDir state free = λ kept file h. empty_operated file (take kept state.waiting) state.files h
 
 -- each other log of a directory holds no byte
@@ -211,7 +209,7 @@ empty_moved least logs files (Log number) to directory free h = by (find (Log nu
 empty_moved least logs files _ to directory free h = absurd free
 
 new_file_empty : (files : List File) → IsEmpty (file_at (length files) files)
-new_file_empty [] = record { meant = refl; read = refl }
+new_file_empty [] = refl
 new_file_empty (file ∷ files) = new_file_empty files
 
 empty_kept : (least : ℕ) (logs : List Chained) (change : Change) (state : State) → IsOfFree least logs change → KeptBy (HasEmpty least logs state.files) change state
@@ -232,6 +230,15 @@ others_stay least logs change answer state after free step h =
 
 -- ---- all that is kept
 
+free_spares : (least : ℕ) (logs : List Chained) (change : Change) (state : State) → IsOfFree least logs change → SparesSpoilt change state
+free_spares least logs (Create name) state free = tt
+free_spares least logs (Append name bytes) state free = absurd free
+free_spares least logs (Sync name) state free = tt
+free_spares least logs (Rename from to) state free = tt
+free_spares least logs (Remove name) state free = tt
+free_spares least logs (Cut name size) state free = tt
+free_spares least logs SyncDir state free = tt
+
 pub frame_keeps : FrameKeeps
 frame_keeps place least logs story change answer state after one h free step = record {
   base = base_stays least (point_at place story) change answer state after one (of_free_from least logs change free) step h.base;
@@ -245,4 +252,5 @@ frame_keeps place least logs story change answer state after one h free step = r
     chained = chained_passes story.floor (length story.log) logs state after (others_pass logs change answer state after one (free_others least logs change free) step) h.stored.chained;
     others = others_stay least logs change answer state after free step h.stored.others;
   };
+  read = all_read_stays change answer state after one (free_spares least logs change state free) h.read step;
 }

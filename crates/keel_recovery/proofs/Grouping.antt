@@ -89,9 +89,6 @@ module _ (device : Seen) (footing : Footing) (mode : Mode) (story : Story) (immu
       subst (Behind (log ∷ logs) None) (sym awaits.left_is)
       (sync_done before after one cuts story immutable own writing.waiting next_file tickets batches plan made log h awaits.all_handed (subst (Step (log ∷ logs) None) is step))
 
-  running_some : (stops : Option Failure) (group : Group) (P : Type 0) → Some group ≡ None → P
-  running_some stops group P e = none_some group e
-
   pub done_at : (stops : Option Failure) (logs : List SegmentLog) (log : Option ℕ) (act : Act) (later : List Act) → drop made plan ≡ act ∷ later → Before stops logs log
       → Step logs log act → StoredAt stops after (first_done (group_in log) (drop made plan) (state_in logs))
   done_at None [] None act later e h step = make_case act later e h h.order.1 step

@@ -13,19 +13,20 @@ use Rattle.keel_disk.specs.declared.state.File.{File}
 use Rattle.keel_disk.specs.declared.state.Operation.TheVariants.{Link}
 use Rattle.keel_disk.specs.Directory.{find}
 use Rattle.keel_disk.specs.Sound.{IsOneToOne}
-use Rattle.keel_disk.specs.State.{State, file_at, new_file, settled_through, directory_read}
+use Rattle.keel_disk.specs.State.{State, file_of, file_at, new_file, settled_through, directory_read}
 use Rattle.keel_disk.specs.Step.{DiskStep, done, created, extended, spoiled, synced, with_file}
 use Rattle.keel_disk.specs.Steady.{IsApart, IsSteady, IsGoing}
 use Rattle.keel_disk.proofs.Directories.{find-linked}
+use Rattle.keel_disk.proofs.Meaning.{all_read_stays}
 use Rattle.keel_disk.proofs.Owning.{either_false}
 use Rattle.keel_disk.proofs.Operating.{other_file, read-more, cut-append}
-use Rattle.keel_disk.proofs.Steadily.{AppendLeaves, append_leaves, SyncLeaves, sync_leaves, steady_present, steady_changed, file_changed, present_firm, Firm}
+use Rattle.keel_disk.proofs.Steadily.{steady_read, AppendLeaves, append_leaves, SyncLeaves, sync_leaves, steady_present, steady_changed, file_changed, present_firm, Firm}
 use Rattle.keel_frag.specs.Writing.{records_bytes}
 use Rattle.keel_frag.proofs.Continuing.{going_on}
 use Rattle.keel_machine.specs.Admission.{count_ops}
 use Rattle.keel_machine.specs.States.{Story, handed, published}
 use Rattle.keel_recovery.specs.Calls.{Answer, ByAnswer, IsNewLog, CreateMakes, point_handed, next_chained, IsNext, AllWhole, CanGrow, SyncDirKeeps, grown, LogAppendKeeps, LogSyncKeeps, PublishKeeps}
-use Rattle.keel_recovery.specs.Chains.{Chained, payloads, size_of_first, batches_of, FollowOn, is_chained, HoldsRecords, HoldsBatches, IsGoingLog, AreChained, IsEmpty, OthersEmpty}
+use Rattle.keel_recovery.specs.Chains.{Chained, payloads, size_of_first, batches_of, FollowOn, is_chained, HoldsRecords, HoldsBatches, IsGoingLog, AreChained, OthersEmpty}
 use Rattle.keel_recovery.specs.Keeping.{IsBase, point_at, HoldStory, Keeps}
 use Rattle.keel_recovery.proofs.Framing.{base_stays, others_pass, frame_keeps}
 use Rattle.keel_recovery.proofs.Numbering.{folded_append, seq_folded, batches_append, payloads_append, payloads_length}
@@ -140,7 +141,7 @@ module _ (place least : ℕ) (front : List Chained) (log : Chained) (story : Sto
 -- ---- the records of a file
 
 records_spoiled : (lasting shown : ℕ) (payloads : List (List ℕ)) (file : File) → HoldsRecords lasting shown payloads file → HoldsRecords lasting shown payloads (spoiled file)
-records_spoiled lasting shown payloads file h = record { meant_is = h.meant_is; firm_to = h.firm_to; unread = h.unread; read_is = h.read_is; read_to = h.read_to }
+records_spoiled lasting shown payloads file h = record { meant_is = h.meant_is; firm_to = h.firm_to; read_to = h.read_to }
 
 same_front : (count : ℕ) (payloads more : List (List ℕ)) → count ≤ length payloads → size_of_first count (payloads ++ more) ≡ size_of_first count payloads
 same_front count payloads more within = ap (λ (l : List (List ℕ)). length (records_bytes 0 l)) (take-append-le count payloads more within)
@@ -158,8 +159,6 @@ records_grown lasting shown size kept last old more bytes file few_firm few_read
     record {
       meant_is = (λ i. h.meant_is i ++ (bytes_are ∙ ap (λ (n : ℕ). records_bytes n next) place) i) ∙ sym (going_on 0 first next) ∙ ap (records_bytes 0) (sym all);
       firm_to = omega (arith, ap (size_of_first lasting) all, same_front lasting first next (omega (arith, many, few_firm)), h.firm_to);
-      unread = drop kept bytes;
-      read_is = ap (λ (b : List ℕ). b ++ bytes) (sym going.read) ∙ ap (λ (b : List ℕ). file.read ++ b) (sym (take-append-drop kept bytes)) ∙ sym (append_assoc file.read (take kept bytes) (drop kept bytes));
       read_to = omega (arith, ap (size_of_first shown) all, same_front shown first next (omega (arith, many, few_read)), h.read_to, length-append file.read (take kept bytes));
     }
 
@@ -173,8 +172,6 @@ records_read : (lasting shown more : ℕ) (payloads : List (List ℕ)) (file : F
 records_read lasting shown more payloads file h going = record {
   meant_is = h.meant_is;
   firm_to = h.firm_to;
-  unread = h.unread;
-  read_is = h.read_is;
   read_to = omega (arith, ap length going.read, ap length h.meant_is, take_length more payloads);
 }
 
@@ -186,8 +183,6 @@ records_synced lasting shown firm more payloads file h going =
     let held : HoldsRecords firm more payloads made = record {
       meant_is = h.meant_is;
       firm_to = omega (arith, ap length h.meant_is, take_length firm payloads);
-      unread = h.unread;
-      read_is = h.read_is;
       read_to = omega (arith, ap length going.read, ap length h.meant_is, take_length more payloads);
     } in
     let goes : IsGoing made = record { not_spoilt = going.not_spoilt; read = going.read } in
@@ -264,7 +259,7 @@ others_set least file front log next change state same one steady h = λ count n
     let unchained : is_chained n (front ++ log ∷ []) ≡ false = sym (chained_changed n front log next same) ∙ none in
     let differs : number ≢ file =
     other_file (length state.files) (Log log.number) (Log n) file number (settled_through count state).firm (one count) (unchained_last n front log unchained) (steady.named count) found in
-    subst IsEmpty (sym (get_or-set_other state.files file number (change (file_at file state.files)) new_file differs)) (h count n number above unchained found)
+    subst (λ (f : File). f.meant ≡ []) (sym (get_or-set_other state.files file number (change (file_at file state.files)) new_file differs)) (h count n number above unchained found)
 
 module _ (least floor published lasting shown : ℕ) (front : List Chained) (log next : Chained) (change : File → File) (state : State) (one : IsOneToOne state) (same : next.number ≡ log.number)
     (file : ℕ) (steady : IsSteady (Log log.number) file state) (whole : AllWhole front state) where
@@ -307,6 +302,13 @@ module _ (place least size : ℕ) (front : List Chained) (log : Chained) (story 
       let same : holds.file ≡ file = same_file (Log log.number) holds.file file state holds.steady can.going.steady in
       subst (λ (n : ℕ). HoldsRecords (story.floor - log.before) (length story.log - log.before) (payloads log) (file_at n state.files)) same holds.holds
 
+  -- no call on it failed
+  own_sound : (number : ℕ) → file_of (Log log.number) state ≡ Some number → (file_at number state.files).spoilt ≡ false
+  own_sound number named =
+      let found = steady_read (Log log.number) file state can.going.steady in
+      let same : file ≡ number = let e = sym found ∙ named in cc in
+      subst (λ (n : ℕ). (file_at n state.files).spoilt ≡ false) same can.going.going.not_spoilt
+
   module _ (batches : List (List Op)) (bytes : List ℕ) (limits : AreBatches (point_handed story).seq batches) (bytes_are : bytes ≡ records_bytes size (payloads_behind (point_handed story).seq batches)) where
     appended : (kept : ℕ) → HoldsRecords (story.floor - log.before) (length story.log - log.before) (payloads (grown batches log)) (extended bytes kept own)
     appended kept =
@@ -328,6 +330,7 @@ module _ (place least size : ℕ) (front : List Chained) (log : Chained) (story 
           stored = stored_handed place least front log story batches state after h.stored limits
               (chained_set least story.floor (length story.log) story.floor (length story.log) front log (grown batches log) change state one refl file can.going.steady can.whole passes holds h.stored.chained)
               (others_set least file front log (grown batches log) change state refl one can.going.steady h.stored.others);
+          read = all_read_stays (Append (Log log.number) bytes) answer state after one own_sound h.read step;
         }
 
     pub append_keeps : (answer : Answer) (after : State) → DiskStep state (Append (Log log.number) bytes) answer after
@@ -381,6 +384,7 @@ module _ (place least size : ℕ) (front : List Chained) (log : Chained) (story 
           chained = chained_set least story.floor (length story.log) story.floor (length story.log) front log log change state one refl file can.going.steady can.whole passes holds stored.chained;
           others = others_set least file front log log change state refl one can.going.steady stored.others;
         };
+        read = all_read_stays (Sync (Log log.number)) answer state after one tt h.read step;
       }
 
   published_set : (change : File → File) (answer : Answer) → DiskStep state (Sync (Log log.number)) answer (with_file file change state)
@@ -395,6 +399,7 @@ module _ (place least size : ℕ) (front : List Chained) (log : Chained) (story 
         stored = stored_published place least (front ++ log ∷ []) true story state after h.stored
             (chained_set least story.floor (length story.log) next.floor (length next.log) front log log change state one refl file can.going.steady can.whole passes holds h.stored.chained)
             (others_set least file front log log change state refl one can.going.steady h.stored.others);
+        read = all_read_stays (Sync (Log log.number)) answer state after one tt h.read step;
       }
 
   pub sync_keeps : (answer : Answer) (after : State) → DiskStep state (Sync (Log log.number)) answer after
@@ -453,6 +458,7 @@ publish_keeps place least size front log story state h can =
       base = base_published place least false story state h.base;
       stored = stored_published place least (front ++ log ∷ []) false story state state h.stored
           (chained_last story.floor all story.floor (length next.log) front log log state state refl (all_same front state) can.whole here h.stored.chained) h.stored.others;
+      read = h.read;
     }
 
 -- ---- a new log
@@ -473,7 +479,7 @@ no_records : (lasting shown : ℕ) → HoldsRecords lasting shown [] new_file
 unfolding records_bytes
 no_records lasting shown =
     let none : (count : ℕ) → size_of_first count [] ≡ 0 = λ count. ap (λ (l : List (List ℕ)). length (records_bytes 0 l)) (take_all count [] (omega arith)) in
-    record { meant_is = refl; firm_to = omega (arith, none lasting); unread = []; read_is = refl; read_to = omega (arith, none shown) }
+    record { meant_is = refl; firm_to = omega (arith, none lasting); read_to = omega (arith, none shown) }
 
 module _ (place least number : ℕ) (logs : List Chained) (story : Story) (state after : State) (one : IsOneToOne state) (h : Keeps place least logs story state) (next_is : IsNext number least logs)
     (new : IsNewLog number state) (whole : AllWhole logs state) (step : done SyncDir state ≡ Some after) where
@@ -513,6 +519,7 @@ module _ (place least number : ℕ) (logs : List Chained) (story : Story) (state
             chained = chained_push story.floor (length story.log) logs next after next_is.highest refl new_holds stored.chained;
             others = λ count n file above none found. stored.others count n file above (unchained_push n logs next none) found;
           };
+          read = kept.read;
         },
         record {
           whole = all_whole_pass logs state after (others_pass logs SyncDir (Ok tt) state after one (all_apart logs) step) whole;

@@ -15,6 +15,7 @@ use Rattle.keel_disk.specs.Plain.{bytes_read, image_read}
 use Rattle.keel_disk.specs.Sound.{IsAtRest}
 use Rattle.keel_disk.specs.Steady.{Always, IsHeld}
 use Rattle.keel_disk.proofs.Imaging.{read_found}
+use Rattle.keel_disk.proofs.Meaning.{rest_reads}
 use Rattle.keel_disk.proofs.Resting.{rest_has_one}
 use Rattle.keel_machine.specs.States.{Story, new_story}
 use Rattle.keel_reading.specs.Logs.{log_bytes}
@@ -136,6 +137,7 @@ opening_keeps state number base story rest reads after stands =
         chained = tt;
         others = others_opened state number base rest reads;
       };
+      read = rest_reads state rest;
     }
 
 -- where the directory of a device at rest has a reading in the story, so has every plain image

@@ -1,7 +1,7 @@
 -- What calls that aren't about them leave of logs.
 use Rattle.std.specs.List.{AllByRecursion}
 use Rattle.std.proofs.Common.{◌≡◌, inl, inr, ⊎_elim, ℕ, ◌+◌, ◌-◌, ◌<◌, ◌≤◌, Bool, true, false, List, [], ◌∷◌, ◌++◌, length, take, drop, refl, sym, ap, subst, ◌∙◌, arith, take-append-drop, eqb, eqb-true, eq-eqb}
-use Rattle.std.proofs.lemmas.List.{append-nil, length-append}
+use Rattle.std.proofs.lemmas.List.{length-append}
 use Rattle.keel_base.specs.declared.file_name.FileName.{FileName}
 use Rattle.keel_base.specs.declared.file_name.FileName.TheVariants.{Log}
 use Rattle.keel_disk.specs.declared.state.File.{File}
@@ -92,8 +92,6 @@ whole_holds floor published lasting shown log state h whole =
       holds = record {
         meant_is = h.holds.meant_is;
         firm_to = omega (arith, firm.firm, size, take_length (lasting - log.before) (payloads log));
-        unread = [];
-        read_is = sym firm.read ∙ sym (append-nil f.read);
         read_to = omega (arith, ap length firm.read, size, take_length (shown - log.before) (payloads log));
       };
     }

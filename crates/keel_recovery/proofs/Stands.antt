@@ -1,7 +1,7 @@
 -- A device of which that is kept stands for its story.
 use Rattle.std.specs.Prelude.{option_map, unwrap_or}
 use Rattle.std.proofs.Common.{◌≡◌, inl, inr, ⊎_elim, ℕ, suc, ◌+◌, ◌-◌, ◌≤◌, List, [], ◌∷◌, ◌++◌, length, take, Option, Some, None, refl, sym, ap, subst, ◌∙◌, arith, take_all, take-add}
-use Rattle.std.proofs.lemmas.List.{append-nil, length-append, length-drop, take_at}
+use Rattle.std.proofs.lemmas.List.{length-append, length-drop, take_at}
 use Rattle.keel_base.specs.Points.{Point, fold_batches}
 use Rattle.keel_base.specs.declared.file_name.FileName.{FileName}
 use Rattle.keel_base.specs.declared.file_name.FileName.TheVariants.{Log}
@@ -11,7 +11,7 @@ use Rattle.keel_disk.specs.Directory.{Named, find}
 use Rattle.keel_disk.specs.State.{State, file_at, settled_through, directory_read}
 use Rattle.keel_disk.specs.Image.{IsFileImage, AreImages}
 use Rattle.keel_disk.specs.Plain.{PlainImage, bytes_read, image_read}
-use Rattle.keel_disk.specs.Steady.{file_behind, Always, IsSteady, IsAbsent, IsHeld}
+use Rattle.keel_disk.specs.Steady.{file_behind, Always, IsSteady, IsAbsent, IsHeld, ReadsAsMeant, AllRead}
 use Rattle.keel_disk.proofs.Imaging.{IsFileFound, IsFound, image_found, read_found}
 use Rattle.keel_disk.proofs.Operating.{read_always, uncut_file, cut-first}
 use Rattle.keel_frag.specs.Images.{IsImage, IsPlain}
@@ -21,10 +21,10 @@ use Rattle.keel_machine.specs.States.{Story}
 use Rattle.keel_reading.specs.Answers.{IsLog}
 use Rattle.keel_reading.specs.Logs.{log_bytes}
 use Rattle.keel_reading.specs.Reading.{AreLogsBelow}
-use Rattle.keel_recovery.specs.Chains.{Chained, payloads, size_of_first, batches_of, HoldsRecords, HoldsBatches, IsWholeLog, AreChained, IsEmpty, OthersEmpty}
+use Rattle.keel_recovery.specs.Chains.{Chained, payloads, size_of_first, batches_of, HoldsRecords, HoldsBatches, IsWholeLog, AreChained, OthersEmpty}
 use Rattle.keel_recovery.specs.Keeping.{IsFirmLog, AreLogs, IsBase, point_at, HoldStory, Keeps}
 use Rattle.keel_recovery.specs.Standing.{ReadsIn, Stands}
-use Rattle.keel_recovery.proofs.Emptying.{empty_operated}
+use Rattle.keel_recovery.proofs.Emptying.{IsEmpty, empty_operated, read_operated}
 use Rattle.keel_recovery.proofs.Numbering.{folded_append}
 use Rattle.keel_recovery.proofs.Seeing.{raised, SeenLog, AreSeen, ReadsBehind, Shown, shown_reads}
 
@@ -55,16 +55,11 @@ pub record LogFound (meant : List ℕ) (firm : ℕ) (bytes : List ℕ) : Type 0 
   pub is_image : IsImage firm meant bytes
   pub plain : IsPlain meant bytes
 
--- reads give a first part of the bytes meant
-pub record ReadsPart (file : File) : Type 0 where
-  pub unread : List ℕ
-  pub read_is : file.meant ≡ file.read ++ unread
-
 -- How a directory shows the logs of a device: each that is steady by what is firm of it, and no bytes of each that is
 -- absent or empty.
 pub record Showing (firm_of : File → ℕ) (state : State) (image : Named (List ℕ)) : Type 0 where
   pub alone : Always AreLogs state → AreLogs image
-  pub steady : (number file : ℕ) → IsSteady (Log number) file state → ReadsPart (file_at file state.files) → LogFound (file_at file state.files).meant (firm_of (file_at file state.files)) (log_bytes number image)
+  pub steady : (number file : ℕ) → IsSteady (Log number) file state → LogFound (file_at file state.files).meant (firm_of (file_at file state.files)) (log_bytes number image)
   pub absent : (number : ℕ) → IsAbsent (Log number) state → log_bytes number image ≡ []
   pub empty : (number : ℕ) → ((count file : ℕ) → file_behind count (Log number) state ≡ Some file → IsEmpty (file_at file state.files)) → log_bytes number image ≡ []
 
@@ -97,14 +92,14 @@ image_shows state image (count, (images, plain)) =
     λ number. image_found settled.files settled.firm image (Log number) images plain in
     record {
       alone = λ logs. image_logs settled.files settled.firm image (logs count) images;
-      steady = λ number file h reads.
+      steady = λ number file h.
           let here = found_steady settled.files number file (file_behind count (Log number) state) (find (Log number) image) (h.named count) (found number) in
           let same : file_at file settled.files ≡ file_at file state.files = uncut_file file (take count state.waiting) state.files (cut-first file count state.waiting h.not_cut) in
           let is : IsFileFound (Log number) (file_at file state.files) (log_bytes number image) = subst (λ (f : File). IsFileFound (Log number) f (log_bytes number image)) same here in
           record { is_image = record { least = is.is_image.no_shorter; most = is.is_image.no_longer; agrees = is.is_image.agrees }; plain = is.plain };
       absent = λ number h. found_absent settled.files (Log number) (file_behind count (Log number) state) (find (Log number) image) (h count) (found number);
       empty = λ number h. found_empty settled.files number (file_behind count (Log number) state) (find (Log number) image)
-          (λ file is. (empty_operated file (take count state.waiting) state.files (h count file is)).meant) (found number);
+          (λ file is. empty_operated file (take count state.waiting) state.files (h count file is)) (found number);
     }
 
 -- ---- what reads give
@@ -119,26 +114,48 @@ read_is_image meant read unread e = record {
   plain = fronts_are_plain meant read unread e;
 }
 
-read_shows : (state : State) → Showing (λ file. length file.read) state (image_read state)
-read_shows state =
+-- where all operations are done, what is read of a file is as before
+settled_read : (file : ℕ) (state : State) → (file_at file (settled_through (length state.waiting) state).files).read ≡ (file_at file state.files).read
+settled_read file state = read_operated file (take (length state.waiting) state.waiting) state.files
+
+uncut_reads : (name : FileName) (file : ℕ) (state : State) → AllRead state → IsSteady name file state → ReadsAsMeant (file_at file state.files)
+uncut_reads name file state read h =
+    let same : file_at file (settled_through (length state.waiting) state).files ≡ file_at file state.files =
+    uncut_file file (take (length state.waiting) state.waiting) state.files (cut-first file (length state.waiting) state.waiting h.not_cut) in
+    subst ReadsAsMeant same (read name file (read_always (λ d. find name d ≡ Some file) state h.named))
+
+no_unread : (read unread : List ℕ) → [] ≡ read ++ unread → read ≡ []
+no_unread [] unread e = refl
+no_unread (byte ∷ read) unread e = absurd (omega (arith, ap length e))
+
+empty_reads : (name : FileName) (file : ℕ) (state : State) → AllRead state → find name (directory_read state) ≡ Some file → IsEmpty (file_at file state.files) → (file_at file state.files).read ≡ []
+empty_reads name file state read named empty =
+    let h = read name file named in
+    let none : (file_at file (settled_through (length state.waiting) state).files).meant ≡ [] = empty_operated file (take (length state.waiting) state.waiting) state.files empty in
+    sym (settled_read file state) ∙ no_unread (file_at file (settled_through (length state.waiting) state).files).read h.unread (sym none ∙ h.read_is)
+
+read_shows : (state : State) → AllRead state → Showing (λ file. length file.read) state (image_read state)
+read_shows state read =
     let found : (number : ℕ) → find (Log number) (image_read state) ≡ option_map (λ n. (file_at n state.files).read) (find (Log number) (directory_read state)) =
     λ number. read_found state.files (Log number) (directory_read state) in
     let bytes : (number : ℕ) (o : Option ℕ) → find (Log number) (directory_read state) ≡ o → log_bytes number (image_read state) ≡ unwrap_or (option_map (λ n. (file_at n state.files).read) o) [] =
     λ number o e. ap (λ b. unwrap_or b []) (found number ∙ ap (option_map (λ n. (file_at n state.files).read)) e) in
     record {
       alone = λ logs. read_logs state.files (directory_read state) (read_always AreLogs state logs);
-      steady = λ number file h reads.
+      steady = λ number file h.
           let here : log_bytes number (image_read state) ≡ (file_at file state.files).read = bytes number (Some file) (read_always (λ d. find (Log number) d ≡ Some file) state h.named) in
+          let reads = uncut_reads (Log number) file state read h in
           subst (LogFound (file_at file state.files).meant (length (file_at file state.files).read)) (sym here)
           (read_is_image (file_at file state.files).meant (file_at file state.files).read reads.unread reads.read_is);
       absent = λ number h. bytes number None (read_always (λ d. find (Log number) d ≡ None) state h);
-      empty = λ number h. of_empty number (find (Log number) (directory_read state)) (bytes number) (read_always (λ d. (file : ℕ) → find (Log number) d ≡ Some file → IsEmpty (file_at file state.files)) state h);
+      empty = λ number h. of_empty number (find (Log number) (directory_read state)) refl (bytes number) (read_always (λ d. (file : ℕ) → find (Log number) d ≡ Some file → IsEmpty (file_at file state.files)) state h);
     }
   where
-    of_empty : (number : ℕ) (found : Option ℕ) → ((o : Option ℕ) → found ≡ o → log_bytes number (image_read state) ≡ unwrap_or (option_map (λ n. (file_at n state.files).read) o) [])
-        → ((file : ℕ) → found ≡ Some file → IsEmpty (file_at file state.files)) → log_bytes number (image_read state) ≡ []
-    of_empty number None bytes empty = bytes None refl
-    of_empty number (Some file) bytes empty = bytes (Some file) refl ∙ (empty file refl).read
+    of_empty : (number : ℕ) (found : Option ℕ) → find (Log number) (directory_read state) ≡ found
+        → ((o : Option ℕ) → find (Log number) (directory_read state) ≡ o → log_bytes number (image_read state) ≡ unwrap_or (option_map (λ n. (file_at n state.files).read) o) [])
+        → ((file : ℕ) → find (Log number) (directory_read state) ≡ Some file → IsEmpty (file_at file state.files)) → log_bytes number (image_read state) ≡ []
+    of_empty number None is bytes empty = bytes None is
+    of_empty number (Some file) is bytes empty = bytes (Some file) is ∙ empty_reads (Log number) file state read is (empty file is)
 
 -- ---- what is kept is shown
 
@@ -148,7 +165,7 @@ module _ (firm_of : File → ℕ) (mark floor published : ℕ) (state : State) (
   held_log : (number file : ℕ) (bytes : List ℕ) → IsSteady (Log number) file state → IsHeld (file_at file state.files) bytes → log_bytes number image ≡ bytes
   held_log number file bytes steady held =
       let f = file_at file state.files in
-      let found = shows.steady number file steady (record { unread = []; read_is = held.meant ∙ sym held.read ∙ sym (append-nil f.read) }) in
+      let found = shows.steady number file steady in
       let size : firm_of f ≡ length bytes = whole_is f bytes held in
       let long : length (log_bytes number image) ≡ length bytes = omega (arith, size, found.is_image.least, found.is_image.most, ap length held.meant) in
       sym (take_all (firm_of f) (log_bytes number image) (omega (arith, long, size))) ∙ found.is_image.agrees ∙ take_all (firm_of f) f.meant (omega (arith, size, ap length held.meant)) ∙ held.meant
@@ -156,7 +173,7 @@ module _ (firm_of : File → ℕ) (mark floor published : ℕ) (state : State) (
   seen_log : (log : Chained) → HoldsBatches floor published log state → SeenLog mark log (log_bytes log.number image)
   seen_log log h =
       let f = file_at h.file state.files in
-      let found = shows.steady log.number h.file h.steady (record { unread = h.holds.unread; read_is = h.holds.read_is }) in
+      let found = shows.steady log.number h.file h.steady in
       record {
         firm = firm_of f;
         is_image = subst (λ (m : List ℕ). IsImage (firm_of f) m (log_bytes log.number image)) h.holds.meant_is found.is_image;
@@ -228,6 +245,6 @@ stands place least logs story state keeps =
           in_story place least published logs story state (image_read state) stored
           (shown_reads published place least base.held (point_at place story) logs (image_read state) base.reads stored.least_is stored.in_turn stored.limits
           (there place least published logs story state stored (omega arith))
-          (shown (λ file. length file.read) published story.floor published state (image_read state) (read_shows state) (λ before payloads file h. h.read_to) (λ file bytes h. ap length h.read)
+          (shown (λ file. length file.read) published story.floor published state (image_read state) (read_shows state keeps.read) (λ before payloads file h. h.read_to) (λ file bytes h. ap length h.read)
           least (point_at place story) logs base stored.chained stored.others));
     }

@@ -45,8 +45,6 @@ is_chained n (log ∷ logs) = log.number == n || is_chained n logs
 pub record HoldsRecords (lasting shown : ℕ) (payloads : List (List ℕ)) (file : File) : Type 0 where
   pub meant_is : file.meant ≡ records_bytes 0 payloads
   pub firm_to : size_of_first lasting payloads ≤ file.firm
-  pub unread : List ℕ
-  pub read_is : file.meant ≡ file.read ++ unread
   pub read_to : size_of_first shown payloads ≤ length file.read
 
 -- The log's name is steady, and it holds its batches: those that must not be lost are firm, and those that are published
@@ -78,13 +76,8 @@ AreChained floor published (log ∷ logs) state =
     × (AllByRecursion (λ (later : Chained). later.batches ≡ []) logs ⊎ IsWholeLog log state)
     × AreChained floor published logs state
 
--- nothing was written to the file
-pub record IsEmpty (file : File) : Type 0 where
-  pub meant : file.meant ≡ []
-  pub read : file.read ≡ []
-
 -- whatever operations are done, another log from that number on holds no byte
 abbrev pub OthersEmpty : ℕ → List Chained → State → Type 0
 OthersEmpty least logs state =
     (count n file : ℕ) → least ≤ n → is_chained n logs ≡ false → file_behind count (Log n) state ≡ Some file
-    → IsEmpty (file_at file state.files)
+    → (file_at file state.files).meant ≡ []

@@ -5,7 +5,7 @@ use Rattle.keel_base.specs.Points.{Point, fold_batches}
 use Rattle.keel_base.specs.declared.file_name.FileName.TheVariants.{Log}
 use Rattle.keel_disk.specs.Directory.{Named}
 use Rattle.keel_disk.specs.State.{State, file_at}
-use Rattle.keel_disk.specs.Steady.{Always, IsSteady, IsAbsent, IsHeld}
+use Rattle.keel_disk.specs.Steady.{Always, IsSteady, IsAbsent, IsHeld, AllRead}
 use Rattle.keel_machine.specs.States.{Story}
 use Rattle.keel_reading.specs.Answers.{IsLog}
 use Rattle.keel_reading.specs.Logs.{log_bytes}
@@ -49,7 +49,9 @@ pub record HoldStory (place least : ℕ) (logs : List Chained) (story : Story) (
   pub chained : AreChained story.floor (length story.log) logs state
   pub others : OthersEmpty least logs state
 
--- The directory reads as the point at a place of the story, but for logs from a number on, which hold the rest of it.
+-- The directory reads as the point at a place of the story, but for logs from a number on, which hold the rest of it; and
+-- reads give what was meant.
 pub record Keeps (place least : ℕ) (logs : List Chained) (story : Story) (state : State) : Type 0 where
   pub base : IsBase least (point_at place story) state
   pub stored : HoldStory place least logs story state
+  pub read : AllRead state
