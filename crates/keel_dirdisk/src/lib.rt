@@ -58,6 +58,3 @@ mod stop;
 mod tally;
 
 pub use dir_disk::DirDisk;
-
-#[cfg(test)]
-mod tests;
