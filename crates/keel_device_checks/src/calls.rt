@@ -2,7 +2,7 @@
 ghost use Rattle.keel_base.specs.Name.{IsName};
 
 use keel_base::{Fault, FileName};
-use keel_disk::{Disk, DiskError, ReadError};
+use keel_disk::{Disk, DiskError, ReadError, read_file};
 use std::alloc::Global;
 
 pub const LOG: FileName = FileName::Log(1);
@@ -48,6 +48,17 @@ pub fn cuts<D: Disk>(alloc: Global, disk: &mut D, length: u64) -> bool {
 /// Whether a file has these bytes.
 pub fn has<D: Disk>(alloc: Global, disk: &mut D, name: FileName, bytes: &[u8]) -> bool {
     match disk.read_at(alloc, name, 0, 100) {
+        Ok(found) => found.as_slice() == bytes,
+        Err(_) => false,
+    }
+}
+
+/// Whether the log, read whole, is this.
+pub fn is_whole<D: Disk>(alloc: Global, disk: &mut D, bytes: &[u8]) -> bool {
+    let Ok(size) = disk.size(alloc, LOG) else {
+        return false;
+    };
+    match read_file(alloc, disk, LOG, size) {
         Ok(found) => found.as_slice() == bytes,
         Err(_) => false,
     }

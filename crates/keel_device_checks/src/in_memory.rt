@@ -1,7 +1,7 @@
 // The device in memory.
 use crate::calls::{
-    LOG, TABLE, appends, creates, cuts, has, has_free, has_size, is_refused, lists_the_log,
-    removes, renames, syncs, syncs_names,
+    LOG, TABLE, appends, creates, cuts, has, has_free, has_size, is_refused, is_whole,
+    lists_the_log, removes, renames, syncs, syncs_names,
 };
 use keel_base::{Call, Fault};
 use keel_disk::{Device, Pick, Rule};
@@ -110,6 +110,14 @@ fn room_ends_at_the_capacity(rt: HostRuntime) -> Result<(), Fail> {
     assert!(rt; appends(alloc, &mut disk, b"de"));
     assert!(rt; has_size(alloc, &mut disk, LOG, 5));
     assert!(rt; lists_the_log(alloc, &mut disk));
+    Ok(())
+}
+
+#[test]
+fn a_file_is_read_whole(rt: HostRuntime) -> Result<(), Fail> {
+    let alloc = rt.alloc();
+    let mut disk = with_log(alloc, b"abc")?;
+    assert!(rt; is_whole(alloc, &mut disk, b"abc"));
     Ok(())
 }
 
