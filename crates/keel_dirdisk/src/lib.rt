@@ -45,7 +45,7 @@
 //! it fail. Any other name but NAME.new is never listed, counted, opened or changed. The path of the folder is taken as
 //! it is given; an empty one names no folder. No program that takes no lock may change the store's files meanwhile.
 //!
-//! It stands on `keel_disk` for the traits and on `keel_name` for the names of files.
+//! It stands on `keel_disk` for the traits and on `keel_name` for the names of files and their order.
 #![tactic(auto)]
 
 mod budget;
@@ -58,6 +58,3 @@ mod stop;
 mod tally;
 
 pub use dir_disk::DirDisk;
-
-#[cfg(test)]
-mod tests;

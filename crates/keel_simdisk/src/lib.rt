@@ -30,6 +30,3 @@ mod sim_disk;
 mod tree;
 
 pub use sim_disk::SimDisk;
-
-#[cfg(test)]
-mod tests;

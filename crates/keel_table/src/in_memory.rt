@@ -13,7 +13,7 @@ use keel_base::{Bytes, Rows};
 use std::alloc::Global;
 
 /// So many bytes from a place on, as far as they are there.
-pub(crate) fn part_at(bytes: &[u8], place: u64, size: u64) -> &[u8]
+fn part_at(bytes: &[u8], place: u64, size: u64) -> &[u8]
     ensures { result.now ≡ spec.part_at place size bytes.now }
 {
     if bytes.len() as u64 <= place {

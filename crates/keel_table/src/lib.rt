@@ -52,8 +52,3 @@ pub use in_memory::{block_in, open_bytes};
 pub use index::{BlockEntries, BlockEntry, Footer};
 pub use opening::open_table;
 pub use table::Table;
-
-#[cfg(test)]
-mod one_file;
-#[cfg(test)]
-mod tests;

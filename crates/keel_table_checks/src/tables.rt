@@ -1,11 +1,13 @@
+// A table from its builder to its file, and back.
 ghost use Rattle.std.specs.Prelude.{◌≡◌, IsTrue};
 ghost use Rattle.keel_base.specs.Keys.{key_lt};
-ghost use Rattle.keel_table.specs.Building.{key_before};
 ghost use Rattle.keel_base.specs.Rows.{IsRow};
+ghost use Rattle.keel_table.specs.Building.{key_before};
 
-use crate::one_file::OneFile;
-use crate::{Builder, Pieces, Table, TableFault, block_in, laws, open_bytes, open_table};
-use keel_base::{Bytes, FileName, Kind, OutOfMemory, Row};
+use keel_base::{Bytes, FileName, Kind, LONGEST_KEY, LONGEST_VALUE, OutOfMemory, Row};
+use keel_disk::Disk;
+use keel_simdisk::SimDisk;
+use keel_table::{Builder, Pieces, Table, TableFault, block_in, laws, open_bytes, open_table};
 use std::alloc::Global;
 use std::test::Fail;
 
@@ -24,13 +26,13 @@ const TABLE: [u8; 92] = [
 ];
 
 /// The put of a key to as many bytes.
-fn put(alloc: Global, seq: u64, key: &[u8], size: usize) -> Result<Row, OutOfMemory> {
+fn put(alloc: Global, key: &[u8], size: usize) -> Result<Row, OutOfMemory> {
     let mut value = Bytes::new(alloc);
     for _ in 0..size {
         value.extend(b"1")?;
     }
     Ok(Row {
-        seq,
+        seq: 1,
         kind: Kind::Put,
         key: Bytes::from_slice(alloc, key)?,
         value,
@@ -44,7 +46,10 @@ fn is_row(row: &Row) -> bool
     match row.kind {
         Kind::Del => false,
         Kind::Put => {
-            1 <= row.key.len() && row.key.len() <= 1024 && row.value.len() <= 65536 && row.seq < 9
+            1 <= row.key.len()
+                && row.key.len() <= LONGEST_KEY
+                && row.value.len() <= LONGEST_VALUE
+                && row.seq < 9
         }
     }
 }
@@ -67,54 +72,79 @@ fn added(alloc: Global, builder: &mut Builder, row: &Row) -> Result<Option<Bytes
     Ok(builder.add(alloc, row).ok().ok_or("memory")?)
 }
 
-/// The pieces of the table of these rows, one behind the other.
-fn table_of(alloc: Global, last: u64, rows: &[Row]) -> Result<Bytes, Fail> {
+/// Adds puts of these keys to values of that size, and gives the pieces that they closed, one behind the other.
+fn pieces_of(
+    alloc: Global,
+    builder: &mut Builder,
+    keys: &[u8],
+    size: usize,
+) -> Result<Bytes, Fail> {
     let mut bytes = Bytes::new(alloc);
-    let mut builder = Builder::new(alloc, 1, last)?;
-    for row in rows {
-        if let Some(piece) = added(alloc, &mut builder, row)? {
+    for key in keys {
+        let row = put(alloc, &[*key], size)?;
+        if let Some(piece) = added(alloc, builder, &row)? {
             bytes.extend(piece.as_slice())?;
         }
     }
+    Ok(bytes)
+}
+
+/// Adds what ends a table.
+fn finish(alloc: Global, builder: Builder, bytes: &mut Bytes) -> Result<(), Fail> {
     let Pieces { block, end } = builder.finish(alloc)?;
     if let Some(block) = block {
         bytes.extend(block.as_slice())?;
     }
     bytes.extend(end.as_slice())?;
+    Ok(())
+}
+
+/// The table of puts of these keys to values of that size.
+fn table_of(alloc: Global, keys: &[u8], size: usize) -> Result<Bytes, Fail> {
+    let mut builder = Builder::new(alloc, 1, 1)?;
+    let mut bytes = pieces_of(alloc, &mut builder, keys, size)?;
+    finish(alloc, builder, &mut bytes)?;
     Ok(bytes)
 }
 
-/// Puts of these keys to values of that size.
-fn puts(alloc: Global, keys: &[u8], size: usize) -> Result<Vec<Row>, Fail> {
-    let mut rows = Vec::new(alloc);
-    for key in keys {
-        rows.push(put(alloc, 1, &[*key], size)?)?;
-    }
-    Ok(rows)
+/// Makes table 7 of some bytes.
+fn write<D: Disk>(alloc: Global, disk: &mut D, bytes: &[u8]) -> bool {
+    disk.create(alloc, FileName::Table(7)) == Ok(())
+        && disk.append(alloc, FileName::Table(7), bytes) == Ok(())
 }
 
-/// A device in which some bytes are table 7.
-fn device(bytes: Bytes) -> OneFile {
-    OneFile {
-        name: FileName::Table(7),
-        bytes,
-    }
+fn opened(
+    alloc: Global,
+    disk: &mut SimDisk,
+    number: u64,
+    size: usize,
+) -> Result<Table, TableFault> {
+    open_table(alloc, disk, number, size as u64)
 }
 
 /// Two blocks: `a` and `b` in the first, `c` in the second.
-fn two_blocks(alloc: Global) -> Result<(OneFile, Table), Fail> {
-    let rows = puts(alloc, b"abc", 3000)?;
-    let bytes = table_of(alloc, 9, rows.as_slice())?;
-    let size = bytes.len() as u64;
-    let mut disk = device(bytes);
-    let table = open_table(alloc, &mut disk, 7, size)?;
+fn two_blocks(alloc: Global) -> Result<(SimDisk, Table), Fail> {
+    let bytes = table_of(alloc, b"abc", 3000)?;
+    let mut disk = SimDisk::new(alloc, 10_000);
+    if !write(alloc, &mut disk, bytes.as_slice()) {
+        return Err(Fail::from("memory"));
+    }
+    let table = opened(alloc, &mut disk, 7, bytes.len())?;
     Ok((disk, table))
+}
+
+fn rows_in(alloc: Global, disk: &mut SimDisk, table: &Table, block: u32) -> Result<usize, Fail> {
+    if block < table.blocks() {
+        Ok(table.block(alloc, disk, block)?.len())
+    } else {
+        Err(Fail::from("no block"))
+    }
 }
 
 /// How many bytes the value of a key has, where the table has one.
 fn size_of_value(
     alloc: Global,
-    disk: &mut OneFile,
+    disk: &mut SimDisk,
     table: &Table,
     key: &[u8],
 ) -> Result<Option<usize>, Fail> {
@@ -124,23 +154,22 @@ fn size_of_value(
     }
 }
 
+fn begins(table: &Table, key: &[u8]) -> u32 {
+    table.first_block(key)
+}
+
 #[test]
 fn the_table_of_one_put(rt: HostRuntime) -> Result<(), Fail> {
-    let alloc = rt.alloc();
-    let rows = puts(alloc, b"a", 1)?;
-    let bytes = table_of(alloc, 1, rows.as_slice())?;
-    assert_eq!(rt; bytes.as_slice(), TABLE.as_slice());
+    let bytes = table_of(rt.alloc(), b"a", 1)?;
+    assert!(rt; bytes.as_slice() == TABLE.as_slice());
     Ok(())
 }
 
 #[test]
 fn what_a_builder_tells(rt: HostRuntime) -> Result<(), Fail> {
     let alloc = rt.alloc();
-    let rows = puts(alloc, b"abc", 3000)?;
     let mut builder = Builder::new(alloc, 1, 1)?;
-    for row in rows.as_slice() {
-        added(alloc, &mut builder, row)?;
-    }
+    pieces_of(alloc, &mut builder, b"abc", 3000)?;
     // Two rows and a check of 4 bytes were given, and a row is left.
     assert_eq!(rt; builder.blocks(), 1);
     assert_eq!(rt; builder.size(), 6040);
@@ -152,11 +181,8 @@ fn what_a_builder_tells(rt: HostRuntime) -> Result<(), Fail> {
 fn a_table_of_two_blocks(rt: HostRuntime) -> Result<(), Fail> {
     let alloc = rt.alloc();
     let (mut disk, table) = two_blocks(alloc)?;
-    assert_eq!(rt; table.blocks(), 2);
-    if 1 < table.blocks() {
-        let rows = table.block(alloc, &mut disk, 1)?;
-        assert_eq!(rt; rows.len(), 1);
-    }
+    assert_eq!(rt; rows_in(alloc, &mut disk, &table, 0)?, 2);
+    assert_eq!(rt; rows_in(alloc, &mut disk, &table, 1)?, 1);
     Ok(())
 }
 
@@ -164,32 +190,24 @@ fn a_table_of_two_blocks(rt: HostRuntime) -> Result<(), Fail> {
 fn gets_of_a_table(rt: HostRuntime) -> Result<(), Fail> {
     let alloc = rt.alloc();
     let (mut disk, table) = two_blocks(alloc)?;
-    assert_eq!(rt; size_of_value(alloc, &mut disk, &table, b"b")?, Some(3000));
-    assert_eq!(rt; size_of_value(alloc, &mut disk, &table, b"bb")?, None);
-    assert_eq!(rt; size_of_value(alloc, &mut disk, &table, b"d")?, None);
+    assert!(rt; size_of_value(alloc, &mut disk, &table, b"b")? == Some(3000));
+    assert!(rt; size_of_value(alloc, &mut disk, &table, b"bb")? == None);
     Ok(())
 }
 
 #[test]
 fn where_a_scan_begins(rt: HostRuntime) -> Result<(), Fail> {
-    let alloc = rt.alloc();
-    let (_disk, table) = two_blocks(alloc)?;
-    assert_eq!(rt; table.first_block(b""), 0);
-    assert_eq!(rt; table.first_block(b"b"), 0);
-    assert_eq!(rt; table.first_block(b"bb"), 1);
-    assert_eq!(rt; table.first_block(b"d"), 2);
+    let (_disk, table) = two_blocks(rt.alloc())?;
+    assert!(rt; begins(&table, b"") == 0 && begins(&table, b"b") == 0);
+    assert!(rt; begins(&table, b"bb") == 1 && begins(&table, b"d") == 2);
     Ok(())
 }
 
 #[test]
-fn an_absent_table(rt: HostRuntime) -> Result<(), Fail> {
+fn an_absent_table(rt: HostRuntime) {
     let alloc = rt.alloc();
-    let mut disk = device(Bytes::from_slice(alloc, &TABLE)?);
-    match open_table(alloc, &mut disk, 8, 92) {
-        Ok(_) => assert!(rt; false, "no table"),
-        Err(fault) => assert_eq!(rt; fault, TableFault::Absent),
-    }
-    Ok(())
+    let found = opened(alloc, &mut SimDisk::new(alloc, 1), 8, 92);
+    assert!(rt; matches!(found, Err(TableFault::Absent)));
 }
 
 #[test]
@@ -199,10 +217,8 @@ fn a_changed_byte_of_the_index(rt: HostRuntime) -> Result<(), Fail> {
     if let Some(byte) = wrong.get_mut(30) {
         *byte = 9;
     }
-    match open_bytes(alloc, wrong.as_slice()) {
-        Err(TableFault::BadCheck { stored, computed }) => assert!(rt; stored != computed),
-        _ => assert!(rt; false, "a bad check"),
-    }
+    let found = open_bytes(alloc, wrong.as_slice());
+    assert!(rt; matches!(found, Err(TableFault::BadCheck { .. })));
     Ok(())
 }
 
