@@ -15,7 +15,7 @@ use Rattle.keel_machine.specs.Admission.{batches_of_group, ops_of, tickets_of_gr
 use Rattle.keel_machine.specs.States as machine
 use Rattle.keel_machine.specs.States.{Group, left_of}
 use Rattle.keel_mem.specs.Shown.{MemShown}
-use Rattle.keel_machine.specs.Writing.{draws}
+use Rattle.keel_machine.specs.Writing.{draws, log_number, log_size}
 use Rattle.keel_core.specs.declared.flight.Act.{Act}
 use Rattle.keel_core.specs.declared.flight.Act.TheVariants.{MakeLog, SyncDirectory, AddRecords, SyncLog}
 use Rattle.keel_core.specs.declared.flight.Flight.{Flight}
@@ -24,9 +24,9 @@ use Rattle.keel_core.specs.declared.queue.Queue.{Queue}
 use Rattle.keel_core.specs.declared.trail.Trail.{Trail}
 use Rattle.keel_core.specs.Flights.{act_of, flying, group_shown, is_synced, later_than, made_log, next_in, with_next}
 use Rattle.keel_core.specs.Orders.{HasLog, IsInOrder, IsStaged}
-use Rattle.keel_core.specs.Queues.{batches_next, goes_on, gone_on, has_more, next_group, without_batches}
-use Rattle.keel_core.specs.Steps.{IsMade, IsNext, IsRefused, NextIs, change_of, formed, log_behind, log_longer, next_bytes, number_in, size_in}
-use Rattle.keel_core.specs.Views.{CoreView, draws_next, point_in}
+use Rattle.keel_core.specs.Queues.{goes_on, gone_on, has_more, next_group, without_batches}
+use Rattle.keel_core.specs.Steps.{IsMade, IsNext, IsRefused, NextIs, change_of, formed, log_behind, log_longer, next_bytes, ready_group}
+use Rattle.keel_core.specs.Views.{CoreView, draws_next, own_state, point_in}
 
 -- ---- the next act
 
@@ -202,17 +202,18 @@ moved_in_order mem trail old new next log behind failed last_seq handed_seq next
 pub next_formed : (act : Act) (view : CoreView) → IsNext act (formed act view).group
 next_formed act view = record { flight = next_group view.waiting act; sync = wants_sync (next_batches view.waiting); group_is = refl; left_is = refl; log_is = refl }
 
-same_next : (old : CoreView) (group : Option Group) → IsNone group → batches_next old.waiting group ≡ next_batches old.waiting
+same_next : (old : CoreView) (group : Option Group) → IsNone group
+    → (ready_group old.waiting old.log group).batches ≡ next_batches old.waiting
 same_next old None none = refl
 same_next old (Some group) none = absurd cc
 
 next_bytes_same : (act : Act) (old : CoreView) → IsNone old.group → next_bytes old ≡ next_bytes (formed act old)
-next_bytes_same act old none = ap (λ (l : List Batch). records_bytes (size_in old.log) (payloads_behind (point_in old).seq (ops_of l))) (same_next old old.group none)
+next_bytes_same act old none = ap (λ (l : List Batch). records_bytes (log_size (own_state old)) (payloads_behind (point_in old).seq (ops_of l))) (same_next old old.group none)
 
 same_change : (act : Act) (old : CoreView) → IsNone old.group → change_of act old ≡ change_of act (formed act old)
 same_change MakeLog old none = refl
 same_change (SyncDirectory log) old none = refl
-same_change AddRecords old none = ap (λ (l : List ℕ). change.Append (Log (number_in old.log)) l) (next_bytes_same AddRecords old none)
+same_change AddRecords old none = ap (λ (l : List ℕ). change.Append (Log (log_number (own_state old))) l) (next_bytes_same AddRecords old none)
 same_change SyncLog old none = refl
 
 same_longer : (act : Act) (old : CoreView) (device : Seen) → IsNone old.group

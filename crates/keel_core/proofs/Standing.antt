@@ -29,7 +29,7 @@ use Rattle.keel_core.specs.Flights.{act_of, later_than, logs_of, made_log}
 use Rattle.keel_core.specs.Orders.{HasLog}
 use Rattle.keel_core.specs.Queues.{given, has_more}
 use Rattle.keel_core.specs.Steps as steps
-use Rattle.keel_core.specs.Steps.{IsMade, IsNext, IsRefused, IsWanted, change_of, done, done_step, log_behind, log_longer, number_in, size_in, stopped, tried}
+use Rattle.keel_core.specs.Steps.{IsMade, IsNext, IsRefused, IsWanted, change_of, done, done_step, log_behind, log_longer, stopped, tried}
 use Rattle.keel_core.specs.Views.{Beyond, CoreView, IsAlike, MakesCall, state_of}
 use Rattle.keel_core.proofs.Calling.{quiet_same}
 use Rattle.keel_core.proofs.Forming.{by_flight, by_story}
@@ -56,17 +56,6 @@ drop_more (suc made) [] act later is = absurd (cc is)
 drop_more (suc made) (first ∷ plan) act later is =
     let one_more : suc (made + 1) ≡ suc made + 1 = omega arith in
     subst (λ n. drop n (first ∷ plan) ≡ later) one_more (drop_more made plan act later is)
-
-abbrev log_shown : Option OwnLog → Option SegmentLog
-log_shown log = states.newest_log (logs_of log false)
-
-number_same : (log : Option OwnLog) → unwrap_or (option_map (λ (l : SegmentLog). l.number) (log_shown log)) 0 ≡ number_in log
-number_same None = refl
-number_same (Some own) = refl
-
-size_same : (log : Option OwnLog) → unwrap_or (option_map (λ (l : SegmentLog). l.size) (log_shown log)) 0 ≡ size_in log
-size_same None = refl
-size_same (Some own) = refl
 
 longer_same : (log : Option OwnLog) (more : ℕ) → machine_after.log_longer more (logs_of log false) ≡ logs_of (log_longer more log) false
 longer_same None more = refl
@@ -113,13 +102,13 @@ module _ (view : CoreView) (told : Seen) (group : Group) where
     s = state_before beyond running
 
     same_bytes : machine.group_bytes s running ≡ steps.next_bytes before
-    same_bytes = λ i. records_bytes (size_same view.log i) (payloads_behind (sym (part_point view.trail beyond.story part) i).seq (ops_of (alike.batches i)))
+    same_bytes = λ i. records_bytes (machine.log_size s) (payloads_behind (sym (part_point view.trail beyond.story part) i).seq (ops_of (alike.batches i)))
 
     same_change : (act : Act) → machine.change_of s running (act_of act) ≡ change_of act before
     same_change MakeLog = refl
     same_change (SyncDirectory log) = refl
-    same_change AddRecords = λ i. change.Append (Log (number_same view.log i)) (same_bytes i)
-    same_change SyncLog = ap (λ n. change.Sync (Log n)) (number_same view.log)
+    same_change AddRecords = ap (λ l. change.Append (Log (machine.log_number s)) l) same_bytes
+    same_change SyncLog = refl
 
     made_call : (act : Act) (later : List states.Act) (failed : Option Fault) → left_of group ≡ act_of act ∷ later → Calls view.device (change_of act before) (as_answer failed) told
         → MadeCall s held running (act_of act) later failed told

@@ -11,19 +11,21 @@ use Rattle.keel_disk.specs.declared.error.DiskError.TheVariants as error
 use Rattle.keel_disk.specs.Seen.{Calls, IsQuiet}
 use Rattle.keel_frag.specs.Writing.{records_bytes}
 use Rattle.keel_group.specs.Forming.{next_size}
-use Rattle.keel_group.specs.Queue.{tickets_of}
+use Rattle.keel_group.specs.Queue.{Ticketed, tickets_of}
 use Rattle.keel_machine.specs.declared.answers.Outcome.TheVariants as outcome
 use Rattle.keel_machine.specs.declared.steps.WriteStep.{WriteStep}
 use Rattle.keel_machine.specs.declared.steps.WriteStep.TheVariants as step
 use Rattle.keel_machine.specs.Admission.{batches_of_group, ops_of, tickets_of_group}
 use Rattle.keel_machine.specs.States.{Group, handed, left_of, published}
+use Rattle.keel_machine.specs.Writing as writing
+use Rattle.keel_machine.specs.Writing.{group_bytes}
 use Rattle.keel_machine.specs.WritingAfter.{done_each, failure_of}
 use Rattle.keel_core.specs.declared.flight.Act.{Act}
 use Rattle.keel_core.specs.declared.flight.Act.TheVariants.{MakeLog, SyncDirectory, AddRecords, SyncLog}
 use Rattle.keel_core.specs.declared.log.OwnLog.{OwnLog}
 use Rattle.keel_core.specs.Flights.{act_of, later_than, made_log}
-use Rattle.keel_core.specs.Queues.{batches_next, first_act, given, goes_on, gone_on, next_group, without_batches}
-use Rattle.keel_core.specs.Views.{CoreView, point_in, with_device}
+use Rattle.keel_core.specs.Queues.{first_act, given, goes_on, gone_on, next_group, without_batches}
+use Rattle.keel_core.specs.Views.{CoreView, own_state, point_in, with_device}
 
 -- ---- the next act
 
@@ -50,21 +52,18 @@ formed first view = record view {
 
 -- ---- calls
 
-abbrev pub number_in : Option OwnLog → ℕ
-number_in log = unwrap_or (option_map (λ (own : OwnLog). own.number) log) 0
+-- the group that makes the next call: the one in flight, or the next of those that wait
+abbrev pub ready_group : List Ticketed → Option OwnLog → Option Group → Group
+ready_group waiting log None = next_group waiting (first_act log)
+ready_group waiting log (Some group) = group
 
-abbrev pub size_in : Option OwnLog → ℕ
-size_in log = unwrap_or (option_map (λ (own : OwnLog). own.size) log) 0
-
--- the records of the batches that the next append hands to the log
+-- the bytes that its append adds
 abbrev pub next_bytes : CoreView → List ℕ
-next_bytes view = records_bytes (size_in view.log) (payloads_behind (point_in view).seq (ops_of (batches_next view.waiting view.group)))
+next_bytes view = group_bytes (own_state view) (ready_group view.waiting view.log view.group)
 
+-- the call of an act, as the machine has it
 abbrev pub change_of : Act → CoreView → Change
-change_of MakeLog view = change.Create (Log view.next_file)
-change_of (SyncDirectory log) view = change.SyncDir
-change_of AddRecords view = change.Append (Log (number_in view.log)) (next_bytes view)
-change_of SyncLog view = change.Sync (Log (number_in view.log))
+change_of act view = writing.change_of (own_state view) (ready_group view.waiting view.log view.group) (act_of act)
 
 abbrev pub log_longer : ℕ → Option OwnLog → Option OwnLog
 log_longer more None = None

@@ -63,7 +63,7 @@ impl Queue {
     pub(crate) fn reserve(&mut self) -> Result<(), OutOfMemory>
         requires { length (tickets_of_group (flying self.old.group)) ≤ 64 }
         ensures waiting { self.new.waiting.items ≡ self.old.waiting.items }
-        ensures place { OnOk result (0 < self.new.waiting.spare) }
+        ensures spare { OnOk result (0 < self.new.waiting.spare) }
         ensures group { self.new.group ≡ self.old.group }
         ensures outcomes { self.new.outcomes.items ≡ self.old.outcomes.items }
         ensures last_ticket { self.new.last_ticket ≡ self.old.last_ticket }

@@ -10,7 +10,7 @@ pub record Ticketed : Type 0 where
 abbrev pub ticketed : ℕ → Batch → Ticketed
 ticketed ticket batch = record { ticket = ticket; batch = batch }
 
--- each batch under the ticket at its place
+-- each batch under the ticket of its index
 abbrev pub zipped : List ℕ → List Batch → List Ticketed
 zipped [] batches = []
 zipped (ticket ∷ tickets) [] = []
