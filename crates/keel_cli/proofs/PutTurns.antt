@@ -11,11 +11,11 @@ use Rattle.keel_machine.specs.declared.answers.Outcome.{Outcome}
 use Rattle.keel_machine.specs.declared.answers.Outcome.TheVariants as outcome
 use Rattle.keel_machine.specs.declared.steps.WriteStep.{WriteStep}
 use Rattle.keel_machine.specs.declared.steps.WriteStep.TheVariants as step
-use Rattle.keel_machine.specs.Admission.{admit_after, standing, queued}
+use Rattle.keel_machine.specs.Admission.{admit_after, stopping, queued}
 use Rattle.keel_machine.specs.States.{State, Group}
 use Rattle.keel_machine.specs.Tests.{first_some, when}
 use Rattle.keel_machine.specs.Turns.{after, Admitting, Writing, TakingOutcome}
-use Rattle.keel_machine.specs.Writing.{rest_in_group}
+use Rattle.keel_machine.specs.Writing.{rests_of}
 use Rattle.keel_core.specs.Views.{CoreView, StandsFor, Turns}
 use Rattle.keel_script.specs.declared.reply.Reply.{Reply}
 use Rattle.keel_script.specs.declared.reply.Reply.TheVariants as reply
@@ -179,9 +179,9 @@ only : {A : Type 0} (first : Option A) (x : A) → first_some (first ∷ []) ≡
 only None x is = absurd cc
 only (Some y) x is = is
 
-no_rest : (s : State) (running : Option Group) (job current : ℕ) → first_some (rest_in_group s running ∷ []) ≡ Some (step.Cancelled job current) → ⊥
-no_rest s None job current is = no_cancel _ _ (standing s) _ _ job current (only (rest_in_group s None) (step.Cancelled job current) is)
-no_rest s (Some group) job current is = no_cancel_in _ job current is
+no_rest : (s : State) (running : Option Group) (job current : ℕ) → first_some (first_some (rests_of s running) ∷ []) ≡ Some (step.Cancelled job current) → ⊥
+no_rest s None job current is = no_cancel _ _ (stopping s) _ _ job current (only (first_some (rests_of s None)) (step.Cancelled job current) is)
+no_rest s (Some group) job current is = no_cancel_in _ job current (only (first_some (rests_of s (Some group))) (step.Cancelled job current) is)
 
 pub never_cancelled : (core new : CoreView) (job current : ℕ) → Turns core (Writing None (step.Cancelled job current)) new → ⊥
 never_cancelled core new job current turns =

@@ -11,7 +11,7 @@ use Rattle.keel_machine.specs.declared.answers.Admit.{Admit}
 use Rattle.keel_machine.specs.declared.answers.Admit.TheVariants as admit
 use Rattle.keel_machine.specs.declared.answers.Part.TheVariants as part
 use Rattle.keel_base.specs.Weight.{weight_of}
-use Rattle.keel_machine.specs.Admission.{stopping, is_key_length, size_refusal, refusal, standing}
+use Rattle.keel_machine.specs.Admission.{stopping, is_key_length, size_refusal, refusal}
 use Rattle.keel_machine.specs.States.{State}
 use Rattle.keel_machine.specs.Tests.{first_some, when}
 

@@ -1,5 +1,5 @@
 -- What becomes of a ticket in the turns of the machine.
-use Rattle.std.proofs.Common.{◌≡◌, ◌≢◌, ◌⊎◌, ℕ, ◌+◌, ◌==◌, ◌||◌, Bool, true, false, cond, List, [], ◌∷◌, ◌++◌, map, find, filter, length, drop, ap, Option, Some, None, IsSome, IfSome, option_map, option_to_list, unwrap_or, if◌then◌else◌, refl, sym, ◌∙◌, subst, inl, inr, arith, append-nil, eq-eqb}
+use Rattle.std.proofs.Common.{◌≡◌, ◌≢◌, ◌⊎◌, ℕ, ◌+◌, ◌==◌, ◌||◌, Bool, true, false, cond, List, [], ◌∷◌, ◌++◌, map, find, filter, length, drop, ap, Option, Some, None, IsSome, IfSome, option_map, unwrap_or, if◌then◌else◌, refl, sym, ◌∙◌, subst, inl, inr, arith, append-nil, eq-eqb}
 use Rattle.std.proofs.lemmas.List.{map-append}
 use Rattle.std.specs.List.{list_any}
 use Rattle.std.proofs.lemmas.List.Folds.{list_any-append}

@@ -16,7 +16,7 @@ returns-in-Ok g c s stands covered =
     let shows : Seen = g.V.Disk.seen c.take_device-device.result in
     let shown : Shows c.args.self.now shows = rw c.self.view_is at c.take_device-device.ensures in
     let shut = shut_where c.args.self.now s shows c.requires stands shown in
-    opened_run s c.in-Ok.core shows _ shut (c.in-Ok.ensures.ok s shut.device (expected s covered)) c.last_seq-seq.ensures
+    opened_run s c.in-Ok.core shows _ shut (c.in-Ok.ensures.ok s shut.device (expected s shut.shut covered)) c.last_seq-seq.ensures
 
 pub returns-in-Err : goal.returns-in-Err
 returns-in-Err g c s stands covered =
