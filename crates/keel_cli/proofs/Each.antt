@@ -17,7 +17,7 @@ use Rattle.keel_cli.specs.declared.lines.LineStop.TheVariants.{Refused, Unwritte
 use Rattle.keel_cli.specs.declared.lines.StopPlace.{StopPlace}
 use Rattle.keel_cli.specs.Cuts.{StoreCutShort, CutShort}
 use Rattle.keel_cli.specs.Drains.{Moves, DrainRun}
-use Rattle.keel_cli.specs.Ends.{Stops, LinesEnd}
+use Rattle.keel_cli.specs.LineEnds.{Stops, LinesEnd}
 use Rattle.keel_cli.specs.Inside.{OfStep, EachWait, EachPut, EachPutCut, EachMove, EachDrain, EachCall, EachOnStore, EachOf, EachPartly, EachStoreCut, EachCut, EachRun, EachStopped, EachEnd}
 use Rattle.keel_cli.specs.Puts.{put_batch, del_batch, Waits, PutRun, PutCut}
 use Rattle.keel_cli.specs.Runs.{rest_reply, Calls, RestsOrCalls, Carries, CallsPartly, Run}
@@ -124,9 +124,8 @@ module _ (C : State → Type 0) (keep : (old new : State) (event : Event) → Ma
 
   pub each_end : (stop : Option StopPlace) (old new : Session) (held holds : Option (List ℕ)) (lines : List (List ℕ)) (ends : LinesEnd stop old held lines new holds) → C old.store → EachEnd Has stop old held lines new holds ends
   each_end None old new held holds lines progress kept = each_run progress.commands old new progress.replies progress.run kept
-  each_end (Some at) old new held holds lines stops kept =
-      (
-        each_run stops.progress.commands old stops.mid stops.progress.replies stops.progress.run kept,
-        each_stopped at.stop stops.mid new stops.holds_mid holds stops.line stops.stops
-            (progressed C keep old stops.mid held stops.holds_mid stops.before stops.progress kept),
-      )
+  each_end (Some at) old new held holds lines stops kept = (
+    each_run stops.progress.commands old stops.mid stops.progress.replies stops.progress.run kept,
+    each_stopped at.stop stops.mid new stops.holds_mid holds stops.line stops.stops
+        (progressed C keep old stops.mid held stops.holds_mid stops.before stops.progress kept),
+  )

@@ -6,7 +6,7 @@ use Rattle.keel_script.specs.declared.command.Command.{Command}
 use Rattle.keel_cli.specs.declared.answer.Answer.{Answer}
 use Rattle.keel_cli.specs.declared.driver.Driver.{Driver}
 use Rattle.keel_cli.specs.Driving.{StandsAt, DriverLeads, DriverLeaves, LineLeads}
-use Rattle.keel_cli.specs.Ends.{CommandEnds, LineEnds, Writes, WritesPart}
+use Rattle.keel_cli.specs.LineEnds.{CommandEnds, LineEnds, Writes, WritesPart}
 use Rattle.keel_lines.specs.Lines.{longest_line}
 use Rattle.keel_script.specs.Grammar as script
 use Rattle.keel_cli.specs.declared.lines.LineStop.{LineStop}

@@ -8,7 +8,7 @@ use Rattle.keel_script.specs.Grammar as script
 use Rattle.keel_script.specs.Words.{IsBlank}
 use Rattle.keel_cli.specs.declared.lines.LineStop.{LineStop}
 use Rattle.keel_cli.specs.declared.lines.LineStop.TheVariants.{Refused, Unwritten, NoMemory}
-use Rattle.keel_cli.specs.Ends.{CommandEnds, LineEnds, Progress}
+use Rattle.keel_cli.specs.LineEnds.{CommandEnds, LineEnds, Progress}
 use Rattle.keel_lines.specs.Lines.{longest_line}
 use Rattle.keel_cli.specs.Grammar.{AreCommands}
 use Rattle.keel_cli.specs.Replies.{text, full_line}

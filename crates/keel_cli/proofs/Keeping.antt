@@ -25,7 +25,7 @@ use Rattle.keel_cli.specs.declared.lines.LineStop.TheVariants.{Refused, Unwritte
 use Rattle.keel_cli.specs.declared.lines.StopPlace.{StopPlace}
 use Rattle.keel_cli.specs.Cuts.{StoreCutShort, CutShort}
 use Rattle.keel_cli.specs.Drains.{Moves, DrainRun, DrainCut}
-use Rattle.keel_cli.specs.Ends.{Progress, Stops, LinesEnd}
+use Rattle.keel_cli.specs.LineEnds.{Progress, Stops, LinesEnd}
 use Rattle.keel_cli.specs.Puts.{put_batch, del_batch, PutRun, PutCut, QueueRun, Queues, Waits}
 use Rattle.keel_cli.specs.Runs.{rest_reply, CrashRun, Calls, RestsOrCalls, CarriesOnStore, SetRun, Carries, CallsPartly, Run}
 use Rattle.keel_cli.specs.Sessions.{Session}

@@ -1,16 +1,19 @@
 -- What the device of a run's last state stands for.
-use Rattle.std.proofs.Common.{◌≡◌, ℕ, Option, List, refl, sym, subst, inl, ⊎_elim, arith}
+use Rattle.std.proofs.Common.{◌≡◌, ℕ, Option, None, List, refl, sym, subst, inl, ⊎_elim, arith}
 use Rattle.keel_disk.specs.Told.{Told}
 use Rattle.keel_disk.specs.Seen.{Seen}
 use Rattle.keel_machine.specs.States.{State, Footing, Known, Unknown}
-use Rattle.keel_recovery.specs.Machine.{RestsIn, IsCovered, IsCounted, forged_of}
+use Rattle.keel_recovery.specs.Machine.{RestsIn, IsCovered, IsCounted, StepIsSafe, forged_of}
 use Rattle.keel_recovery.proofs.Forging.{footing_stays}
 use Rattle.keel_recovery.proofs.Machine.{turn_keeps, covered_stands, starts_covered}
 use Rattle.keel_cli.specs.declared.lines.StopPlace.{StopPlace}
-use Rattle.keel_cli.specs.Ends.{LinesEnd}
+use Rattle.keel_cli.specs.LineEnds.{LinesEnd}
 use Rattle.keel_cli.specs.Sessions.{Session, Begins, MayBegin, unopened}
 use Rattle.keel_cli.specs.Standing.{NoneForged, Recovers}
+use Rattle.keel_recovery.proofs.SafeSteps.{steps_are_safe}
+use Rattle.keel_cli.specs.Inside.{EachEnd}
 use Rattle.keel_cli.proofs.Keeping.{lines_end}
+use Rattle.keel_cli.proofs.Each.{each_end}
 
 rests_where : (footing : Footing) (told : Option Told) → MayBegin footing told → footing ≡ Known → RestsIn told
 rests_where Known told may is = may
@@ -38,3 +41,10 @@ recovers stop footing handed_in first last held holds lines may begins ends =
           (lines_end (IsCounted count) (λ old new event may_call turn. footing_stays count old new event none.counts turn) stop first last held holds lines ends counted);
       stands = λ known begun. covered_stands last.store known begun covered;
     }
+
+-- a crash inside any of its calls leaves a prefix of the story
+pub safe_inside : (stop : Option StopPlace) (footing : Footing) (handed_in : Seen) (first last : Session) (held holds : Option (List ℕ)) (lines : List (List ℕ))
+    → MayBegin footing handed_in.told → Begins footing handed_in first → (ends : LinesEnd stop first held lines last holds) → EachEnd StepIsSafe stop first held lines last holds ends
+safe_inside stop footing handed_in first last held holds lines may begins ends =
+    each_end IsCovered turn_keeps StepIsSafe (λ old new made opened turn covered. steps_are_safe old new None made opened turn covered)
+    stop first last held holds lines ends (first_covered footing handed_in first begins may)

@@ -5,11 +5,12 @@ use Rattle.keel_machine.specs.States.{Footing}
 use Rattle.keel_recovery.specs.Machine.{IsCovered}
 use Rattle.keel_recovery.proofs.Machine.{turn_keeps}
 use Rattle.keel_cli.specs.declared.lines.LineStop.{LineStop}
-use Rattle.keel_cli.specs.Ends.{Progress, Stops, LinesRun, StopsAt, stop_at}
+use Rattle.keel_cli.specs.Ends.{LinesRun, stop_at}
+use Rattle.keel_cli.specs.LineEnds.{Progress, Stops, StopsAt}
 use Rattle.keel_cli.specs.Sessions.{Session, Begins, MayBegin}
 use Rattle.keel_cli.proofs.GoingOn.{Appends-none, Progress-append}
 use Rattle.keel_cli.proofs.Keeping.{progressed}
-use Rattle.keel_cli.proofs.Recovering.{first_covered, recovers}
+use Rattle.keel_cli.proofs.Recovering.{first_covered, recovers, safe_inside}
 
 -- from a beginning on this footing, these lines were carried out
 pub record RunsSoFar (footing : Footing) (handed_in : Seen) (held : Option (List ℕ)) (lines : List (List ℕ)) (holds : Option (List ℕ)) (now : Session) : Type 0 where
@@ -60,6 +61,7 @@ module _ (footing : Footing) (handed_in : Seen) (held : Option (List ℕ)) where
           ends = stops;
           device = device;
           recovers = recovers (stop_at stop number) footing handed_in runs.first new held holds (lines ++ line ∷ []) may runs.begins stops;
+          inside = safe_inside (stop_at stop number) footing handed_in runs.first new held holds (lines ++ line ∷ []) may runs.begins stops;
         }
 
     pub run_ends : (lines : List (List ℕ)) (holds : Option (List ℕ)) (now : Session) → handed_back ≡ now.store.device
@@ -71,4 +73,5 @@ module _ (footing : Footing) (handed_in : Seen) (held : Option (List ℕ)) where
       ends = runs.progress;
       device = device;
       recovers = recovers None footing handed_in runs.first now held holds lines may runs.begins runs.progress;
+      inside = safe_inside None footing handed_in runs.first now held holds lines may runs.begins runs.progress;
     }

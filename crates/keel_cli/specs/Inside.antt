@@ -14,7 +14,7 @@ use Rattle.keel_cli.specs.declared.lines.LineStop.TheVariants.{Refused, Unwritte
 use Rattle.keel_cli.specs.declared.lines.StopPlace.{StopPlace}
 use Rattle.keel_cli.specs.Cuts.{StoreCutShort, CutShort}
 use Rattle.keel_cli.specs.Drains.{Moves, DrainRun}
-use Rattle.keel_cli.specs.Ends.{Stops, LinesEnd}
+use Rattle.keel_cli.specs.LineEnds.{Stops, LinesEnd}
 use Rattle.keel_cli.specs.Puts.{put_batch, del_batch, Waits, PutRun, PutCut}
 use Rattle.keel_cli.specs.Runs.{Calls, RestsOrCalls, rest_reply, Carries, CallsPartly, Run}
 use Rattle.keel_cli.specs.Sessions.{Session}

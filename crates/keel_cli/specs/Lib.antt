@@ -9,6 +9,7 @@ pub mod Stores
 pub mod Cuts
 pub mod Driving
 pub mod Standing
-pub mod Ends
+pub mod LineEnds
 pub mod Inside
+pub mod Ends
 pub mod Words

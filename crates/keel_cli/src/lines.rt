@@ -3,7 +3,8 @@ ghost use Rattle.std.specs.Prelude.{◌≡◌, ◌≢◌, ◌<◌, ◌-◌, ◌^
 ghost use Rattle.keel_base.specs.Counts.{Rose};
 ghost use Rattle.keel_recovery.specs.Machine.{IsCovered};
 ghost use Rattle.keel_cli.specs.Driving.{LineLeads, StandsAt};
-ghost use Rattle.keel_cli.specs.Ends.{CommandEnds, LineEnds, Ends, IsUnwritten, end_at, end_behind, outside};
+ghost use Rattle.keel_cli.specs.Ends.{Ends, end_at, end_behind, outside};
+ghost use Rattle.keel_cli.specs.LineEnds.{CommandEnds, LineEnds, IsUnwritten};
 ghost use Rattle.keel_lines.specs.Inputs.{TakesFew};
 ghost use Rattle.keel_lines.specs.Lines.{longest_line};
 ghost use Rattle.keel_cli.specs.declared.top.End.TheVariants.{Usage};
