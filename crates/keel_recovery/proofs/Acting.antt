@@ -19,13 +19,14 @@ use Rattle.keel_disk.specs.Steady.{CutsExist}
 use Rattle.keel_frag.specs.Writing.{records_bytes}
 use Rattle.keel_machine.specs.Admission.{ops_of, count_ops}
 use Rattle.keel_group.specs.Queue.{Ticketed}
-use Rattle.keel_machine.specs.States.{Story, SegmentLog, Segment, Group, Act, MakeLog, SyncDirectory, SyncLog, point_of, handed, published, new_log}
+use Rattle.keel_machine.specs.States.{State, Story, SegmentLog, Segment, Group, Act, MakeLog, SyncDirectory, SyncLog, point_of, handed, published, new_log}
 use Rattle.keel_recovery.specs.Calls.{Answer, point_handed, next_chained, IsNext, CanGrow, grown}
 use Rattle.keel_recovery.specs.Chains.{Chained, is_chained}
 use Rattle.keel_recovery.specs.Keeping.{Keeps}
 use Rattle.keel_recovery.specs.Machine.{calls_from_append, ops_waiting, AreOnTheirWay, UnlessStopped, NoLogYet, HasLog}
 use Rattle.keel_recovery.proofs.Framing.{frame_keeps, free_pass}
-use Rattle.keel_recovery.proofs.Growing.{create_makes, sync_dir_keeps, log_append_keeps, log_sync_keeps, publish_keeps}
+use Rattle.keel_recovery.proofs.Growing.{log_append_keeps, log_sync_keeps, publish_keeps}
+use Rattle.keel_recovery.proofs.Joining.{create_makes, sync_dir_keeps}
 use Rattle.keel_recovery.proofs.Numbering.{folded_append, seq_folded}
 use Rattle.keel_recovery.proofs.Parting.{front_batches, rest_batches}
 use Rattle.keel_recovery.proofs.Passing.{all_whole_pass}
@@ -97,10 +98,33 @@ stopped (Some failure) goes some = refl
 
 -- ---- calls
 
-module _ (before after : Disk) (one : IsOneToOne before) (cuts : CutsExist before) (story : Story) (immutable : List Segment) (batches : List (List Op)) (waiting : List Ticketed) (next_file : ℕ)
-    (tickets : List ℕ) (own_batches : List Batch) (plan : List Act) (made : ℕ) where
+module _ (s : State) (group : Group) (before after : Disk) (one : IsOneToOne before) (cuts : CutsExist before) where
+  abbrev story : Story
+  story = s.story
+
+  abbrev immutable : List Segment
+  immutable = s.segments.immutable
+
+  abbrev batches : List (List Op)
+  batches = s.segments.active.batches
+
+  abbrev waiting : List Ticketed
+  waiting = s.writing.waiting
+
+  abbrev next_file : ℕ
+  next_file = s.numbers.next_file
+
+  abbrev own_batches : List Batch
+  own_batches = group.batches
+
+  abbrev plan : List Act
+  plan = group.plan
+
+  abbrev made : ℕ
+  made = group.progress.made
+
   abbrev group_in : List Batch → ℕ → Option ℕ → Group
-  group_in given count log = record { tickets = tickets; batches = given; plan = plan; progress = record { made = count; log = log } }
+  group_in given count log = record group { batches = given; progress = record { made = count; log = log } }
 
   abbrev running : Option ℕ → Option Group
   running log = Some (group_in own_batches made log)

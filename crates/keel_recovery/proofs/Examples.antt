@@ -17,7 +17,8 @@ use Rattle.keel_recovery.specs.Worked.{two_puts, behind_one, behind_both, TwoPut
 use Rattle.keel_disk.specs.declared.change.Change.TheVariants.{Create, Append, SyncDir}
 use Rattle.keel_disk.proofs.Staying.{one_stays}
 use Rattle.keel_recovery.proofs.Framing.{frame_keeps}
-use Rattle.keel_recovery.proofs.Growing.{create_makes, sync_dir_keeps, log_append_keeps, log_sync_keeps}
+use Rattle.keel_recovery.proofs.Growing.{log_append_keeps, log_sync_keeps}
+use Rattle.keel_recovery.proofs.Joining.{create_makes, sync_dir_keeps}
 use Rattle.keel_reading.proofs.OneReading.{nothing_said}
 use Rattle.keel_recovery.proofs.Opened.{opening_keeps, first_stands}
 

@@ -20,7 +20,7 @@ use Rattle.keel_machine.specs.Turns.{Event, Opening, Admitting, Writing, TakingO
 use Rattle.keel_machine.specs.Writing.{ready, change_of}
 use Rattle.keel_machine.specs.WritingAfter.{WriteAnswers, MadeCall, call_done, call_failed, write_after}
 use Rattle.keel_recovery.specs.Machine.{forged_of, IsCounted, FootingStays}
-use Rattle.keel_recovery.proofs.Machine.{footing_started_or, footing_done, footing_failed}
+use Rattle.keel_recovery.proofs.Unchanged.{footing_started_or, footing_done, footing_failed}
 
 -- ---- turns that count nothing
 

@@ -1,17 +1,14 @@
 -- A group's call, answered Ok or failed, keeps what the store's logs hold.
 use Rattle.std.specs.Prelude.{is_some}
-use Rattle.std.proofs.Common.{◌≡◌, ⊎_elim, ℕ, Bool, true, false, List, [], ◌∷◌, drop, Option, Some, None, refl, sym, ap, subst, ◌∙◌}
+use Rattle.std.proofs.Common.{◌≡◌, ⊎_elim, ℕ, Bool, true, false, List, [], ◌∷◌, Option, Some, None, refl, sym, ap, subst, ◌∙◌}
 use Rattle.keel_base.specs.declared.failure.Failure.{Failure}
 use Rattle.keel_base.specs.declared.failure.Fault.{Fault}
-use Rattle.keel_base.specs.declared.op.Batch.{Batch}
-use Rattle.keel_base.specs.declared.op.Op.{Op}
 use Rattle.keel_disk.specs.State.{State as Disk}
 use Rattle.keel_disk.specs.Sound.{IsOneToOne}
 use Rattle.keel_disk.specs.Step.{DiskStep}
 use Rattle.keel_disk.specs.Steady.{CutsExist}
-use Rattle.keel_disk.specs.Seen.{Seen}
 use Rattle.keel_machine.specs.Admission.{stopping}
-use Rattle.keel_machine.specs.States.{State, Footing, Mode, Story, SegmentLog, Segment, Writing, Failing, Group, Act, MakeLog, SyncDirectory, AddRecords, SyncLog, left_of}
+use Rattle.keel_machine.specs.States.{State, SegmentLog, Failing, Group, Act, MakeLog, SyncDirectory, AddRecords, SyncLog, left_of}
 use Rattle.keel_machine.specs.Writing.{change_of}
 use Rattle.keel_machine.specs.WritingAfter.{first_done, group_done, first_failed, group_failed, failure_of, noted}
 use Rattle.keel_machine.proofs.FirstTests.{none_some}
@@ -26,26 +23,18 @@ first_act left act first later others e k = cc
 abbrev pub StoredAt : Option Failure → Disk → State → Type 0
 StoredAt stops state s = IsStoredIn state s.story s.segments s.writing.waiting stops s.jobs.write.running s.numbers.next_file
 
-module _ (device : Seen) (footing : Footing) (mode : Mode) (story : Story) (immutable : List Segment) (own : List (List Op)) (writing : Writing) (failing : Failing) (number : ℕ) (slot : Option Group) (next_file : ℕ)
-    (tickets : List ℕ) (batches : List Batch) (plan : List Act) (made : ℕ) (before after : Disk) (one : IsOneToOne before) (cuts : CutsExist before) where
+module _ (s : State) (group : Group) (before after : Disk) (one : IsOneToOne before) (cuts : CutsExist before) where
   abbrev state_in : List SegmentLog → State
-  state_in logs = record {
-    device = device;
-    footing = footing;
-    mode = mode;
-    story = story;
-    segments = record { immutable = immutable; active = record { batches = own; logs = logs } };
-    writing = writing;
-    failing = failing;
-    jobs = record { write = record { number = number; running = slot } };
-    numbers = record { next_file = next_file };
-  }
+  state_in logs = record s { segments = record s.segments { active = record s.segments.active { logs = logs } } }
 
   abbrev group_in : Option ℕ → Group
-  group_in log = record { tickets = tickets; batches = batches; plan = plan; progress = record { made = made; log = log } }
+  group_in log = record group { progress = record group.progress { log = log } }
+
+  abbrev left : List Act
+  left = left_of group
 
   abbrev Before : Option Failure → List SegmentLog → Option ℕ → Type 0
-  Before stops logs log = HoldsBy logs before story immutable own writing.waiting stops (Some (group_in log)) next_file
+  Before stops logs log = HoldsBy logs before s.story s.segments.immutable s.segments.active.batches s.writing.waiting stops (Some (group_in log)) s.numbers.next_file
 
   -- ---- Ok
 
@@ -55,42 +44,42 @@ module _ (device : Seen) (footing : Footing) (mode : Mode) (story : Story) (immu
   abbrev Behind : List SegmentLog → Option ℕ → List Act → Type 0
   Behind logs log calls = StoredAt None after (first_done (group_in log) calls (state_in logs))
 
-  make_case : (act : Act) (later : List Act) → drop made plan ≡ act ∷ later → Before None [] None → AwaitsAppend story (MakeLog ∷ SyncDirectory ∷ []) (drop made plan)
-      → Step [] None act → Behind [] None (drop made plan)
+  make_case : (act : Act) (later : List Act) → left ≡ act ∷ later → Before None [] None → AwaitsAppend s.story (MakeLog ∷ SyncDirectory ∷ []) left
+      → Step [] None act → Behind [] None left
   make_case act later e h awaits step =
-      let is = first_act (drop made plan) act MakeLog later (SyncDirectory ∷ calls_from_append awaits.sync) e awaits.left_is in
+      let is = first_act left act MakeLog later (SyncDirectory ∷ calls_from_append awaits.sync) e awaits.left_is in
       subst (Behind [] None) (sym awaits.left_is)
-      (make_done before after one cuts story immutable own writing.waiting next_file tickets batches plan made h (subst (Step [] None) is step))
+      (make_done s group before after one cuts h (subst (Step [] None) is step))
 
-  sync_dir_case : (log : ℕ) (act : Act) (later : List Act) → drop made plan ≡ act ∷ later → Before None [] (Some log) → AwaitsAppend story (SyncDirectory ∷ []) (drop made plan)
-      → Step [] (Some log) act → Behind [] (Some log) (drop made plan)
+  sync_dir_case : (log : ℕ) (act : Act) (later : List Act) → left ≡ act ∷ later → Before None [] (Some log) → AwaitsAppend s.story (SyncDirectory ∷ []) left
+      → Step [] (Some log) act → Behind [] (Some log) left
   sync_dir_case log act later e h awaits step =
-      let is = first_act (drop made plan) act SyncDirectory later (calls_from_append awaits.sync) e awaits.left_is in
+      let is = first_act left act SyncDirectory later (calls_from_append awaits.sync) e awaits.left_is in
       subst (Behind [] (Some log)) (sym awaits.left_is)
-      (sync_dir_done before after one cuts story immutable own writing.waiting next_file tickets batches plan made log h (subst (Step [] (Some log)) is step))
+      (sync_dir_done s group before after one cuts log h (subst (Step [] (Some log)) is step))
 
-  add_calls : (log : SegmentLog) (logs : List SegmentLog) (sync : Bool) → drop made plan ≡ calls_from_append sync → Before None (log ∷ logs) None → story.limbo ≡ [] → Step (log ∷ logs) None AddRecords
+  add_calls : (log : SegmentLog) (logs : List SegmentLog) (sync : Bool) → left ≡ calls_from_append sync → Before None (log ∷ logs) None → s.story.limbo ≡ [] → Step (log ∷ logs) None AddRecords
       → Behind (log ∷ logs) None (calls_from_append sync)
-  add_calls log logs true left h none step =
-      add_done before after one cuts story immutable own writing.waiting next_file tickets batches plan made log h none (drop_next made plan AddRecords (SyncLog ∷ []) left) step
-  add_calls log logs false left h none step = add_published before after one cuts story immutable own writing.waiting next_file tickets batches plan made log h none step
+  add_calls log logs true left_is h none step =
+      add_done s group before after one cuts log h none (drop_next group.progress.made group.plan AddRecords (SyncLog ∷ []) left_is) step
+  add_calls log logs false left_is h none step = add_published s group before after one cuts log h none step
 
-  add_case : (log : SegmentLog) (logs : List SegmentLog) (act : Act) (later : List Act) → drop made plan ≡ act ∷ later → Before None (log ∷ logs) None → Step (log ∷ logs) None act
-      → AwaitsAppend story [] (drop made plan) → Behind (log ∷ logs) None (drop made plan)
+  add_case : (log : SegmentLog) (logs : List SegmentLog) (act : Act) (later : List Act) → left ≡ act ∷ later → Before None (log ∷ logs) None → Step (log ∷ logs) None act
+      → AwaitsAppend s.story [] left → Behind (log ∷ logs) None left
   add_case log logs act later e h step awaits =
-      let is = first_act (drop made plan) act AddRecords later _ e awaits.left_is in
+      let is = first_act left act AddRecords later _ e awaits.left_is in
       subst (Behind (log ∷ logs) None) (sym awaits.left_is)
       (add_calls log logs awaits.sync awaits.left_is h awaits.none_in_limbo (subst (Step (log ∷ logs) None) is step))
 
-  sync_case : (log : SegmentLog) (logs : List SegmentLog) (act : Act) (later : List Act) → drop made plan ≡ act ∷ later → Before None (log ∷ logs) None → Step (log ∷ logs) None act
-      → AwaitsSync batches (drop made plan) → Behind (log ∷ logs) None (drop made plan)
+  sync_case : (log : SegmentLog) (logs : List SegmentLog) (act : Act) (later : List Act) → left ≡ act ∷ later → Before None (log ∷ logs) None → Step (log ∷ logs) None act
+      → AwaitsSync group.batches left → Behind (log ∷ logs) None left
   sync_case log logs act later e h step awaits =
-      let is = first_act (drop made plan) act SyncLog later [] e awaits.left_is in
+      let is = first_act left act SyncLog later [] e awaits.left_is in
       subst (Behind (log ∷ logs) None) (sym awaits.left_is)
-      (sync_done before after one cuts story immutable own writing.waiting next_file tickets batches plan made log h awaits.all_handed (subst (Step (log ∷ logs) None) is step))
+      (sync_done s group before after one cuts log h awaits.all_handed (subst (Step (log ∷ logs) None) is step))
 
-  pub done_at : (stops : Option Failure) (logs : List SegmentLog) (log : Option ℕ) (act : Act) (later : List Act) → drop made plan ≡ act ∷ later → Before stops logs log
-      → Step logs log act → StoredAt stops after (first_done (group_in log) (drop made plan) (state_in logs))
+  pub done_at : (stops : Option Failure) (logs : List SegmentLog) (log : Option ℕ) (act : Act) (later : List Act) → left ≡ act ∷ later → Before stops logs log
+      → Step logs log act → StoredAt stops after (first_done (group_in log) left (state_in logs))
   done_at None [] None act later e h step = make_case act later e h h.order.1 step
   done_at None [] (Some log) act later e h step = sync_dir_case log act later e h h.order.1.0 step
   done_at None (log ∷ logs) None act later e h step = ⊎_elim (add_case log logs act later e h step) (sync_case log logs act later e h step) h.order.1
@@ -107,36 +96,36 @@ module _ (device : Seen) (footing : Footing) (mode : Mode) (story : Story) (immu
     abbrev Failed : List SegmentLog → Option ℕ → List Act → Type 0
     Failed logs log calls = StoredAt stops_then after (first_failed (group_in log) calls failure (state_in logs))
 
-    make_fails : (act : Act) (later : List Act) → drop made plan ≡ act ∷ later → Before None [] None → AwaitsAppend story (MakeLog ∷ SyncDirectory ∷ []) (drop made plan)
-        → Fails [] None act → Failed [] None (drop made plan)
+    make_fails : (act : Act) (later : List Act) → left ≡ act ∷ later → Before None [] None → AwaitsAppend s.story (MakeLog ∷ SyncDirectory ∷ []) left
+        → Fails [] None act → Failed [] None left
     make_fails act later e h awaits step =
-        let is = first_act (drop made plan) act MakeLog later (SyncDirectory ∷ calls_from_append awaits.sync) e awaits.left_is in
+        let is = first_act left act MakeLog later (SyncDirectory ∷ calls_from_append awaits.sync) e awaits.left_is in
         subst (Failed [] None) (sym awaits.left_is)
-        (make_failed before after one cuts story immutable own writing.waiting next_file tickets batches plan made fault stops_then severe h (subst (Fails [] None) is step))
+        (make_failed s group before after one cuts fault stops_then severe h (subst (Fails [] None) is step))
 
-    sync_dir_fails : (log : ℕ) (act : Act) (later : List Act) → drop made plan ≡ act ∷ later → Before None [] (Some log) → AwaitsAppend story (SyncDirectory ∷ []) (drop made plan)
-        → Fails [] (Some log) act → Failed [] (Some log) (drop made plan)
+    sync_dir_fails : (log : ℕ) (act : Act) (later : List Act) → left ≡ act ∷ later → Before None [] (Some log) → AwaitsAppend s.story (SyncDirectory ∷ []) left
+        → Fails [] (Some log) act → Failed [] (Some log) left
     sync_dir_fails log act later e h awaits step =
-        let is = first_act (drop made plan) act SyncDirectory later (calls_from_append awaits.sync) e awaits.left_is in
+        let is = first_act left act SyncDirectory later (calls_from_append awaits.sync) e awaits.left_is in
         subst (Failed [] (Some log)) (sym awaits.left_is)
-        (sync_dir_failed before after one cuts story immutable own writing.waiting next_file tickets batches plan made fault stops_then severe log h (subst (Fails [] (Some log)) is step))
+        (sync_dir_failed s group before after one cuts fault stops_then severe log h (subst (Fails [] (Some log)) is step))
 
-    add_fails : (log : SegmentLog) (logs : List SegmentLog) (act : Act) (later : List Act) → drop made plan ≡ act ∷ later → Before None (log ∷ logs) None → Fails (log ∷ logs) None act
-        → AwaitsAppend story [] (drop made plan) → Failed (log ∷ logs) None (drop made plan)
+    add_fails : (log : SegmentLog) (logs : List SegmentLog) (act : Act) (later : List Act) → left ≡ act ∷ later → Before None (log ∷ logs) None → Fails (log ∷ logs) None act
+        → AwaitsAppend s.story [] left → Failed (log ∷ logs) None left
     add_fails log logs act later e h step awaits =
-        let is = first_act (drop made plan) act AddRecords later _ e awaits.left_is in
+        let is = first_act left act AddRecords later _ e awaits.left_is in
         subst (Failed (log ∷ logs) None) (sym awaits.left_is)
-        (add_failed before after one cuts story immutable own writing.waiting next_file tickets batches plan made fault stops_then severe log h awaits.none_in_limbo (subst (Fails (log ∷ logs) None) is step))
+        (add_failed s group before after one cuts fault stops_then severe log h awaits.none_in_limbo (subst (Fails (log ∷ logs) None) is step))
 
-    sync_fails : (log : SegmentLog) (logs : List SegmentLog) (act : Act) (later : List Act) → drop made plan ≡ act ∷ later → Before None (log ∷ logs) None → Fails (log ∷ logs) None act
-        → AwaitsSync batches (drop made plan) → Failed (log ∷ logs) None (drop made plan)
+    sync_fails : (log : SegmentLog) (logs : List SegmentLog) (act : Act) (later : List Act) → left ≡ act ∷ later → Before None (log ∷ logs) None → Fails (log ∷ logs) None act
+        → AwaitsSync group.batches left → Failed (log ∷ logs) None left
     sync_fails log logs act later e h step awaits =
-        let is = first_act (drop made plan) act SyncLog later [] e awaits.left_is in
+        let is = first_act left act SyncLog later [] e awaits.left_is in
         subst (Failed (log ∷ logs) None) (sym awaits.left_is)
-        (sync_failed before after one cuts story immutable own writing.waiting next_file tickets batches plan made fault stops_then severe log h (subst (Fails (log ∷ logs) None) is step))
+        (sync_failed s group before after one cuts fault stops_then severe log h (subst (Fails (log ∷ logs) None) is step))
 
-    pub failed_at : (stops : Option Failure) (logs : List SegmentLog) (log : Option ℕ) (act : Act) (later : List Act) → drop made plan ≡ act ∷ later → Before stops logs log
-        → Fails logs log act → StoredAt stops_then after (first_failed (group_in log) (drop made plan) failure (state_in logs))
+    pub failed_at : (stops : Option Failure) (logs : List SegmentLog) (log : Option ℕ) (act : Act) (later : List Act) → left ≡ act ∷ later → Before stops logs log
+        → Fails logs log act → StoredAt stops_then after (first_failed (group_in log) left failure (state_in logs))
     failed_at None [] None act later e h step = make_fails act later e h h.order.1 step
     failed_at None [] (Some log) act later e h step = sync_dir_fails log act later e h h.order.1.0 step
     failed_at None (log ∷ logs) None act later e h step = ⊎_elim (add_fails log logs act later e h step) (sync_fails log logs act later e h step) h.order.1
@@ -173,8 +162,7 @@ pub group_done_stored : (s : State) (group : Group) (act : Act) (later : List Ac
 group_done_stored s group act later runs next before after one cuts h step =
     let next_state = first_done group (left_of group) s in
     let at : StoredAt (stopping s) after next_state =
-    done_at s.device s.footing s.mode s.story s.segments.immutable s.segments.active.batches s.writing s.failing s.jobs.write.number s.jobs.write.running s.numbers.next_file
-    group.tickets group.batches group.plan group.progress.made before after one cuts (stopping s) s.segments.active.logs group.progress.log act later next
+    done_at s group before after one cuts (stopping s) s.segments.active.logs group.progress.log act later next
     (subst (λ (running : Option Group). IsStoredIn before s.story s.segments s.writing.waiting (stopping s) running s.numbers.next_file) runs h) step in
     let stops : stopping next_state ≡ stopping s = same_stops s next_state (failing_first_done group (left_of group) s) in
     subst (λ (running : Option Group). IsStored after (group_done running s)) (sym runs) (subst (λ (o : Option Failure). StoredAt o after next_state) (sym stops) at)
@@ -190,7 +178,6 @@ group_failed_stored s group act later fault runs next before after one cuts h st
     (subst (λ (calls : List Act). (first_failed group calls failure s).failing ≡ (noted failure s).failing) (sym next) (failing_first_failed group act later failure s)) in
     let severe : is_some (stopping next_state) ≡ true = ap is_some stops ∙ log_failure_stops s fault in
     let at : StoredAt (stopping next_state) after next_state =
-    failed_at s.device s.footing s.mode s.story s.segments.immutable s.segments.active.batches s.writing s.failing s.jobs.write.number s.jobs.write.running s.numbers.next_file
-    group.tickets group.batches group.plan group.progress.made before after one cuts fault failure (stopping next_state) severe (stopping s) s.segments.active.logs group.progress.log act later next
+    failed_at s group before after one cuts fault failure (stopping next_state) severe (stopping s) s.segments.active.logs group.progress.log act later next
     (subst (λ (running : Option Group). IsStoredIn before s.story s.segments s.writing.waiting (stopping s) running s.numbers.next_file) runs h) step in
     subst (λ (running : Option Group). IsStored after (group_failed running failure s)) (sym runs) at

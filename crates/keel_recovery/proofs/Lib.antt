@@ -6,7 +6,10 @@ pub mod Emptying
 pub mod Stands
 pub mod Passing
 pub mod Framing
+pub mod Following
+pub mod Records
 pub mod Growing
+pub mod Joining
 pub mod Opened
 pub mod Restarted
 pub mod Crashed
@@ -21,6 +24,7 @@ pub mod Crashing
 pub mod OneReading
 pub mod Readable
 pub mod GoingOn
+pub mod Unchanged
 pub mod Machine
 pub mod Forging
 pub mod InsideStep

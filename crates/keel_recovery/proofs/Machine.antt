@@ -22,11 +22,10 @@ use Rattle.keel_machine.specs.Admission.{AdmitAnswers, size_refusal, refusals, r
 use Rattle.keel_machine.specs.Crash.{has_story}
 use Rattle.keel_machine.specs.Opening.{point_found, goes_on_from, continues, OpenAnswers, story_opened, opened}
 use Rattle.keel_machine.specs.Outside.{as_answer}
-use Rattle.keel_group.specs.Queue.{Ticketed}
-use Rattle.keel_machine.specs.States.{State, Footing, Known, Unknown, Phase, Shut, Open, Leaving, Nothing, Crashed, Left, Mode, is_open, is_left, unopened, Story, Group, Act, MakeLog, SyncDirectory, AddRecords, SyncLog, left_of, new_story, point_of, with_device}
+use Rattle.keel_machine.specs.States.{State, Footing, Known, Unknown, Phase, Shut, Open, Leaving, Nothing, Crashed, Left, Mode, is_open, is_left, unopened, Story, Group, Act, MakeLog, SyncDirectory, AddRecords, SyncLog, new_story, point_of, with_device}
 use Rattle.keel_machine.specs.Turns.{Event, Opening, Admitting, Writing, TakingOutcome, Getting, Scanning, Listing, Crashing, Finishing, Answers, after}
-use Rattle.keel_machine.specs.Writing.{started, started_or, ready, write_rest, change_of}
-use Rattle.keel_machine.specs.WritingAfter.{WriteAnswers, MadeCall, first_done, group_done, first_failed, group_failed, call_done, call_failed, failure_of, queue_turned, write_after}
+use Rattle.keel_machine.specs.Writing.{ready, write_rest, change_of}
+use Rattle.keel_machine.specs.WritingAfter.{WriteAnswers, MadeCall, call_done, call_failed, failure_of, queue_turned, write_after}
 use Rattle.keel_machine.proofs.FirstTests.{none_when, none_of}
 use Rattle.keel_reading.specs.declared.replay.Found.{Found}
 use Rattle.keel_reading.specs.Answers.{ReadAnswers, RunsOn, IsFoundIn}
@@ -42,6 +41,7 @@ use Rattle.keel_recovery.proofs.Grouping.{group_done_stored, group_failed_stored
 use Rattle.keel_recovery.proofs.Kept.{kept_stands}
 use Rattle.keel_recovery.proofs.Opened.{opening_keeps, first_stands}
 use Rattle.keel_recovery.proofs.Sizes.{sizes_within}
+use Rattle.keel_recovery.proofs.Unchanged.{mode_started_or, mode_done, mode_failed, footing_started_or, footing_done, footing_failed, files_started_or, files_done, files_failed}
 use Rattle.keel_recovery.proofs.Turning.{ready_keeps, number_below, turned_keeps, queued_keeps}
 
 -- ---- what a covered device gives
@@ -132,114 +132,6 @@ called_by Known None (Some after) change failed s next keep c h = absurd c
 called_by Known (Some before) None change failed s next keep c h = absurd c
 called_by Known (Some before) (Some after) change None s next keep c h = keep before.state after.state h c.0
 called_by Known (Some before) (Some after) change (Some fault) s next keep c h = keep before.state after.state h c.0
-
--- ---- the store stays open
-
-mode_started : (waiting : List Ticketed) (s : State) → (started waiting s).mode ≡ s.mode
-mode_started [] s = refl
-mode_started (first ∷ rest) s = refl
-
-mode_started_or : (running : Option Group) (s : State) → (started_or running s).mode ≡ s.mode
-mode_started_or None s = mode_started s.writing.waiting s
-mode_started_or (Some group) s = refl
-
-mode_first_done : (group : Group) (left : List Act) (s : State) → (first_done group left s).mode ≡ s.mode
-mode_first_done group [] s = refl
-mode_first_done group (MakeLog ∷ []) s = refl
-mode_first_done group (MakeLog ∷ next ∷ later) s = refl
-mode_first_done group (SyncDirectory ∷ []) s = refl
-mode_first_done group (SyncDirectory ∷ next ∷ later) s = refl
-mode_first_done group (AddRecords ∷ []) s = refl
-mode_first_done group (AddRecords ∷ next ∷ later) s = refl
-mode_first_done group (SyncLog ∷ []) s = refl
-mode_first_done group (SyncLog ∷ next ∷ later) s = refl
-
-mode_done : (running : Option Group) (s : State) → (group_done running s).mode ≡ s.mode
-mode_done None s = refl
-mode_done (Some group) s = mode_first_done group (left_of group) s
-
-mode_first_failed : (group : Group) (left : List Act) (failure : Failure) (s : State) → (first_failed group left failure s).mode ≡ s.mode
-mode_first_failed group [] failure s = refl
-mode_first_failed group (MakeLog ∷ later) failure s = refl
-mode_first_failed group (SyncDirectory ∷ later) failure s = refl
-mode_first_failed group (AddRecords ∷ later) failure s = refl
-mode_first_failed group (SyncLog ∷ later) failure s = refl
-
-mode_failed : (running : Option Group) (failure : Failure) (s : State) → (group_failed running failure s).mode ≡ s.mode
-mode_failed None failure s = refl
-mode_failed (Some group) failure s = mode_first_failed group (left_of group) failure s
-
--- on the same footing
-
-footing_started : (waiting : List Ticketed) (s : State) → (started waiting s).footing ≡ s.footing
-footing_started [] s = refl
-footing_started (first ∷ rest) s = refl
-
-pub footing_started_or : (running : Option Group) (s : State) → (started_or running s).footing ≡ s.footing
-footing_started_or None s = footing_started s.writing.waiting s
-footing_started_or (Some group) s = refl
-
-footing_first_done : (group : Group) (left : List Act) (s : State) → (first_done group left s).footing ≡ s.footing
-footing_first_done group [] s = refl
-footing_first_done group (MakeLog ∷ []) s = refl
-footing_first_done group (MakeLog ∷ next ∷ later) s = refl
-footing_first_done group (SyncDirectory ∷ []) s = refl
-footing_first_done group (SyncDirectory ∷ next ∷ later) s = refl
-footing_first_done group (AddRecords ∷ []) s = refl
-footing_first_done group (AddRecords ∷ next ∷ later) s = refl
-footing_first_done group (SyncLog ∷ []) s = refl
-footing_first_done group (SyncLog ∷ next ∷ later) s = refl
-
-pub footing_done : (running : Option Group) (s : State) → (group_done running s).footing ≡ s.footing
-footing_done None s = refl
-footing_done (Some group) s = footing_first_done group (left_of group) s
-
-footing_first_failed : (group : Group) (left : List Act) (failure : Failure) (s : State) → (first_failed group left failure s).footing ≡ s.footing
-footing_first_failed group [] failure s = refl
-footing_first_failed group (MakeLog ∷ later) failure s = refl
-footing_first_failed group (SyncDirectory ∷ later) failure s = refl
-footing_first_failed group (AddRecords ∷ later) failure s = refl
-footing_first_failed group (SyncLog ∷ later) failure s = refl
-
-pub footing_failed : (running : Option Group) (failure : Failure) (s : State) → (group_failed running failure s).footing ≡ s.footing
-footing_failed None failure s = refl
-footing_failed (Some group) failure s = footing_first_failed group (left_of group) failure s
-
--- ---- the next file's number never falls
-
-files_started : (waiting : List Ticketed) (s : State) → (started waiting s).numbers.next_file ≡ s.numbers.next_file
-files_started [] s = refl
-files_started (first ∷ rest) s = refl
-
-pub files_started_or : (running : Option Group) (s : State) → (started_or running s).numbers.next_file ≡ s.numbers.next_file
-files_started_or None s = files_started s.writing.waiting s
-files_started_or (Some group) s = refl
-
-files_first_done : (group : Group) (left : List Act) (s : State) → s.numbers.next_file ≤ (first_done group left s).numbers.next_file
-files_first_done group [] s = omega arith
-files_first_done group (MakeLog ∷ []) s = omega arith
-files_first_done group (MakeLog ∷ next ∷ later) s = omega arith
-files_first_done group (SyncDirectory ∷ []) s = omega arith
-files_first_done group (SyncDirectory ∷ next ∷ later) s = omega arith
-files_first_done group (AddRecords ∷ []) s = omega arith
-files_first_done group (AddRecords ∷ next ∷ later) s = omega arith
-files_first_done group (SyncLog ∷ []) s = omega arith
-files_first_done group (SyncLog ∷ next ∷ later) s = omega arith
-
-pub files_done : (running : Option Group) (s : State) → s.numbers.next_file ≤ (group_done running s).numbers.next_file
-files_done None s = omega arith
-files_done (Some group) s = files_first_done group (left_of group) s
-
-files_first_failed : (group : Group) (left : List Act) (failure : Failure) (s : State) → s.numbers.next_file ≤ (first_failed group left failure s).numbers.next_file
-files_first_failed group [] failure s = omega arith
-files_first_failed group (MakeLog ∷ later) failure s = omega arith
-files_first_failed group (SyncDirectory ∷ later) failure s = omega arith
-files_first_failed group (AddRecords ∷ later) failure s = omega arith
-files_first_failed group (SyncLog ∷ later) failure s = omega arith
-
-pub files_failed : (running : Option Group) (failure : Failure) (s : State) → s.numbers.next_file ≤ (group_failed running failure s).numbers.next_file
-files_failed None failure s = omega arith
-files_failed (Some group) failure s = files_first_failed group (left_of group) failure s
 
 -- ---- a write step
 

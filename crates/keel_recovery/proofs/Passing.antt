@@ -4,12 +4,12 @@ use Rattle.std.proofs.Common.{◌≡◌, inl, inr, ⊎_elim, ℕ, ◌+◌, ◌-�
 use Rattle.std.proofs.lemmas.List.{length-append}
 use Rattle.keel_base.specs.declared.file_name.FileName.{FileName}
 use Rattle.keel_base.specs.declared.file_name.FileName.TheVariants.{Log}
-use Rattle.keel_disk.specs.declared.state.File.{File}
 use Rattle.keel_disk.specs.State.{State, file_at}
-use Rattle.keel_disk.specs.Steady.{IsSteady, IsFirmWhole, IsGoing}
+use Rattle.keel_disk.specs.Steady.{IsSteady, IsFirmWhole}
 use Rattle.keel_frag.specs.Writing.{records_bytes}
 use Rattle.keel_frag.proofs.Continuing.{going_on}
-use Rattle.keel_recovery.specs.Chains.{Chained, payloads, size_of_first, HoldsRecords, HoldsBatches, IsWholeLog, IsGoingLog, AreChained}
+use Rattle.keel_recovery.specs.Calls.{AllWhole}
+use Rattle.keel_recovery.specs.Chains.{Chained, payloads, size_of_first, HoldsRecords, HoldsBatches, IsWholeLog, AreChained}
 
 -- the name, where it is steady, is so behind a call, and its file is as it was
 abbrev pub Passes : FileName → State → State → Type 0
@@ -29,16 +29,8 @@ whole_passes log state after passes h =
     let behind = passes h.file h.steady in
     record { file = h.file; steady = behind.0; firm = subst IsFirmWhole (sym behind.1) h.firm }
 
-pub going_passes : (log : Chained) (size : ℕ) (state after : State) → Passes (Log log.number) state after → IsGoingLog log size state → IsGoingLog log size after
-going_passes log size state after passes h =
-    let behind = passes h.file h.steady in
-    record { file = h.file; steady = behind.0; going = subst IsGoing (sym behind.1) h.going; size_is = ap (λ (f : File). length f.meant) behind.1 ∙ h.size_is }
-
 abbrev pub AllPass : List Chained → State → State → Type 0
 AllPass logs state after = AllByRecursion (λ (log : Chained). Passes (Log log.number) state after) logs
-
-abbrev pub AllWhole : List Chained → State → Type 0
-AllWhole logs state = AllByRecursion (λ (log : Chained). IsWholeLog log state) logs
 
 pub all_whole_pass : (logs : List Chained) (state after : State) → AllPass logs state after → AllWhole logs state → AllWhole logs after
 all_whole_pass [] state after passes whole = tt

@@ -1,4 +1,4 @@
-use Rattle.keel_recovery.proofs.Growing.{sync_dir_keeps}
+use Rattle.keel_recovery.proofs.Joining.{sync_dir_keeps}
 use Rattle.keel_recovery.proofs.laws.sync_dir_keeps.Goals as goal
 
 pub returns : goal.returns
