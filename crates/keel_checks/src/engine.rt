@@ -32,32 +32,68 @@ fn has(alloc: Global, core: &mut Core<SimDisk>, key: &[u8], value: &[u8]) -> boo
     }
 }
 
+// Whether a key has no value.
+fn lacks(alloc: Global, core: &mut Core<SimDisk>, key: &[u8]) -> bool {
+    matches!(core.get(alloc, key), Got::Absent)
+}
+
+// Whether a batch is queued under that ticket.
+fn queues(core: &mut Core<SimDisk>, batch: Batch, ticket: u64) -> bool {
+    matches!(core.admit(batch), Admit::Queued { ticket: given } if given == ticket)
+}
+
+// Whether a ticket's batch waits.
+fn waits(core: &mut Core<SimDisk>, ticket: u64) -> bool {
+    matches!(core.take_outcome(ticket), Outcome::Waiting)
+}
+
+// Whether a ticket's batch is published, and ends with that sequence.
+fn is_done(core: &mut Core<SimDisk>, ticket: u64, seq: u64) -> bool {
+    matches!(core.take_outcome(ticket), Outcome::Done { seq: last } if last == seq)
+}
+
+// Whether nothing is known of a ticket.
+fn is_unknown(core: &mut Core<SimDisk>, ticket: u64) -> bool {
+    matches!(core.take_outcome(ticket), Outcome::Unknown)
+}
+
+// Whether the first group makes that call, and has others before it.
+fn moves(alloc: Global, core: &mut Core<SimDisk>, call: Call) -> bool {
+    matches!(core.write_step(alloc, None), WriteStep::Moved { job: 1, call: made } if made == call)
+}
+
+// Whether the first group, of one batch, makes its last call and is published up to the first sequence.
+fn ends(alloc: Global, core: &mut Core<SimDisk>) -> bool {
+    matches!(
+        core.write_step(alloc, None),
+        WriteStep::Done {
+            job: 1,
+            seq: 1,
+            batches: 1
+        }
+    )
+}
+
+// Whether nothing waits.
+fn is_idle(alloc: Global, core: &mut Core<SimDisk>) -> bool {
+    matches!(core.write_step(alloc, None), WriteStep::Idle)
+}
+
 /// A synced put call by call, and what the next opening finds.
 #[test]
 fn a_put_goes_through_its_calls(rt: HostRuntime) -> Result<(), Fail> {
     let alloc = rt.alloc();
     let mut core = open(alloc, SimDisk::new(alloc, CAPACITY))?;
-    let admitted = core.admit(put(alloc, b"a", b"1")?);
-    assert!(rt; matches!(admitted, Admit::Queued { ticket: 1 }));
-    assert!(rt; matches!(core.take_outcome(1), Outcome::Waiting));
+    let batch = put(alloc, b"a", b"1")?;
+    assert!(rt; queues(&mut core, batch, 1));
+    assert!(rt; waits(&mut core, 1));
     for call in [Call::Create, Call::SyncDir, Call::Append] {
-        let step = core.write_step(alloc, None);
-        assert!(rt; matches!(step, WriteStep::Moved { job: 1, call: made } if made == call));
+        assert!(rt; moves(alloc, &mut core, call));
     }
-    let last = core.write_step(alloc, None);
-    assert!(rt;
-        matches!(
-            last,
-            WriteStep::Done {
-                job: 1,
-                seq: 1,
-                batches: 1
-            }
-        )
-    );
-    assert!(rt; matches!(core.write_step(alloc, None), WriteStep::Idle));
-    assert!(rt; matches!(core.take_outcome(1), Outcome::Done { seq: 1 }));
-    assert!(rt; matches!(core.take_outcome(1), Outcome::Unknown));
+    assert!(rt; ends(alloc, &mut core));
+    assert!(rt; is_idle(alloc, &mut core));
+    assert!(rt; is_done(&mut core, 1, 1));
+    assert!(rt; is_unknown(&mut core, 1));
     Ok(())
 }
 
@@ -77,7 +113,7 @@ fn a_put_is_read(rt: HostRuntime) -> Result<(), Fail> {
     let alloc = rt.alloc();
     let mut core = written(alloc)?;
     assert!(rt; has(alloc, &mut core, b"a", b"1"));
-    assert!(rt; matches!(core.get(alloc, b"b"), Got::Absent));
+    assert!(rt; lacks(alloc, &mut core, b"b"));
     let trail = core.trail();
     assert_eq!(rt; trail.read().len(), 0);
     assert_eq!(rt; trail.log().len(), 1);
@@ -122,11 +158,6 @@ fn deletes(alloc: Global, count: usize) -> Result<Ops, Fail> {
     Ok(ops)
 }
 
-// Whether a batch is queued.
-fn queues(core: &mut Core<SimDisk>, batch: Batch) -> bool {
-    matches!(core.admit(batch), Admit::Queued { .. })
-}
-
 // Whether there is one row alone, of this key and value.
 fn is_one(rows: &Rows, key: &[u8], value: &[u8]) -> bool {
     match rows.as_slice() {
@@ -135,33 +166,47 @@ fn is_one(rows: &Rows, key: &[u8], value: &[u8]) -> bool {
     }
 }
 
+// Whether a batch is refused for its count of ops.
+fn is_too_wide(core: &mut Core<SimDisk>, batch: Batch, count: u64) -> bool {
+    matches!(core.admit(batch), Admit::BadSize { part: Part::Batch, length } if length == count)
+}
+
 /// A batch holds at most a thousand ops.
 #[test]
 fn a_wide_batch_is_refused(rt: HostRuntime) -> Result<(), Fail> {
     let alloc = rt.alloc();
     let mut core = open(alloc, SimDisk::new(alloc, CAPACITY))?;
     let ops = deletes(alloc, 1001)?;
-    let refused = core.admit(Batch { ops, sync: false });
-    let part = Part::Batch;
-    assert!(rt; matches!(refused, Admit::BadSize { part: of, length: 1001 } if of == part));
+    assert!(rt; is_too_wide(&mut core, Batch { ops, sync: false }, 1001));
     Ok(())
 }
 
-/// A scan gives the newest rows between two keys, of batches that one group wrote.
+// Whether a scan from a key on gives one row alone, of this key and value.
+fn scans_one(alloc: Global, core: &mut Core<SimDisk>, key: &[u8], value: &[u8]) -> bool {
+    match core.scan(alloc, key, b"") {
+        Scanned::Rows(rows) => is_one(&rows, key, value),
+        Scanned::OutOfMemory => false,
+    }
+}
+
+// A store in which one group wrote three puts of two keys.
+fn grouped(alloc: Global) -> Result<Core<SimDisk>, Fail> {
+    let mut core = open(alloc, SimDisk::new(alloc, CAPACITY))?;
+    for (key, value) in [(b"b", b"1"), (b"a", b"2"), (b"b", b"3")] {
+        let _ = core.admit(put(alloc, key, value)?);
+    }
+    for _ in 0..4 {
+        let _ = core.write_step(alloc, None);
+    }
+    Ok(core)
+}
+
+/// A scan gives the newest rows from a key on, of batches that one group wrote.
 #[test]
 fn a_group_is_scanned(rt: HostRuntime) -> Result<(), Fail> {
     let alloc = rt.alloc();
-    let mut core = open(alloc, SimDisk::new(alloc, CAPACITY))?;
-    for (key, value) in [(b"b", b"1"), (b"a", b"2"), (b"b", b"3")] {
-        let batch = put(alloc, key, value)?;
-        assert!(rt; queues(&mut core, batch));
-    }
-    for _ in 0..4 {
-        assert!(rt; !matches!(core.write_step(alloc, None), WriteStep::Idle));
-    }
-    let Scanned::Rows(rows) = core.scan(alloc, b"b", b"") else {
-        return Err(Fail::from("the scan is refused"));
-    };
-    assert!(rt; is_one(&rows, b"b", b"3"));
+    let mut core = grouped(alloc)?;
+    assert!(rt; is_idle(alloc, &mut core));
+    assert!(rt; scans_one(alloc, &mut core, b"b", b"3"));
     Ok(())
 }

@@ -2,6 +2,7 @@
 use Rattle.std.proofs.Common.{◌≡◌, ◌+◌, Bool, true, false, length, Option, Some, None, Ok, Err, refl, sym, ap, subst, ◌∙◌, arith, add-zero}
 use Rattle.std.proofs.lemmas.List.{append-nil}
 use Rattle.std.proofs.lemmas.List.Elements.{All-nil}
+use Rattle.keel_base.specs.declared.failure.Fault.{Fault}
 use Rattle.keel_base.specs.Options.{standard}
 use Rattle.keel_disk.specs.Plain.{image_read}
 use Rattle.keel_disk.specs.Told.{Told}
@@ -16,6 +17,7 @@ use Rattle.keel_reading.specs.declared.replay.Found.{Found}
 use Rattle.keel_reading.specs.Answers.{ReadAnswers, NamesOther, RunsOn, fault_in}
 use Rattle.keel_reading.proofs.Founding.{found_reads, last_found}
 use Rattle.keel_reading.proofs.OneReading.{reads_once}
+use Rattle.keel_core.specs.declared.log.OwnLog.{OwnLog}
 use Rattle.keel_core.specs.declared.queue.Queue.{Queue}
 use Rattle.keel_core.specs.declared.trail.Trail.{Trail}
 use Rattle.keel_core.specs.Openings.{Expects, Opens, WhereGoesOn, fresh}
@@ -71,9 +73,9 @@ refuses s before device refusal is answers other quiet =
     subst (λ (d : Seen). Answers (record s { device = d }) (Opening (Err refusal)) device) (sym is) (record { cause = answers; other = other; finds = tt; quiet = quiet })
 
 -- what is true of every core is true of one that was just opened
-pub new_in_order : (mem : MemShown) (trail : Trail) (queue : Queue) (found : Found) → IsEmptyTrail found.batches trail → IsNewQueue queue → RunsOn found → IsPlaced mem (point_read found.batches)
-    → IsInOrder mem trail queue None None found.last_seq found.last_seq found.next_file
-new_in_order mem trail queue found empty q runs placed = record {
+pub new_in_order : (mem : MemShown) (trail : Trail) (queue : Queue) (log : Option OwnLog) (failed : Option Fault) (found : Found) → IsEmptyTrail found.batches trail → IsNewQueue queue → RunsOn found → IsPlaced mem (point_read found.batches)
+    → IsInOrder mem trail queue log failed found.last_seq found.last_seq found.next_file
+new_in_order mem trail queue log failed found empty q runs placed = record {
   seq = sym (last_found found runs) ∙ ap (λ (t : Story). (point_of t).seq) (sym empty.shows);
   handed = subst (λ (t : Story). found.last_seq ≡ found.last_seq + count_ops t.limbo) (sym empty.shows) (sym (add-zero found.last_seq));
   enough = rw (q.group, q.waiting) (omega (arith, runs.last_most));

@@ -1,15 +1,11 @@
 -- How a core goes on in parts of a write step.
-use Rattle.std.specs.Prelude.{◌≡◌, ℕ, ◌+◌, Bool, true, false, List, [], ◌∷◌, ◌++◌, length, drop, Option, Some, None, Result, Ok, Err, option_map, unwrap_or}
+use Rattle.std.specs.Prelude.{◌≡◌, ℕ, ◌+◌, Bool, true, false, List, [], ◌∷◌, ◌++◌, length, drop, Option, Some, None, Result, Ok, Err}
 use Rattle.keel_base.specs.declared.failure.Call.TheVariants as call
 use Rattle.keel_base.specs.declared.failure.Fault.{Fault}
-use Rattle.keel_base.specs.declared.file_name.FileName.TheVariants.{Log}
-use Rattle.keel_batch.specs.Batches.{payloads_behind}
 use Rattle.keel_disk.specs.declared.change.Change.{Change}
-use Rattle.keel_disk.specs.declared.change.Change.TheVariants as change
 use Rattle.keel_disk.specs.declared.error.DiskError.{DiskError}
 use Rattle.keel_disk.specs.declared.error.DiskError.TheVariants as error
 use Rattle.keel_disk.specs.Seen.{Calls, IsQuiet}
-use Rattle.keel_frag.specs.Writing.{records_bytes}
 use Rattle.keel_group.specs.Forming.{next_size}
 use Rattle.keel_group.specs.Queue.{Ticketed, tickets_of}
 use Rattle.keel_machine.specs.declared.answers.Outcome.TheVariants as outcome
