@@ -23,7 +23,7 @@ use Rattle.keel_machine.specs.Crash.{crash_after}
 use Rattle.keel_reading.specs.declared.refusal.OpenRefusal.{OpenRefusal}
 use Rattle.keel_reading.specs.declared.refusal.OpenRefusal.TheVariants as refusal
 use Rattle.keel_core.specs.Openings.{Opens, Expects, IsBorneOut, WhereGoesOn}
-use Rattle.keel_core.specs.Views.{CoreView, StandsFor, Turns, point_in}
+use Rattle.keel_core.specs.Views.{CoreView, StandsFor, TakesTurn, point_in}
 use Rattle.keel_recovery.specs.Machine.{IsCovered, Drops, ReadsOnIn}
 use Rattle.keel_machine.specs.States.{is_open}
 use Rattle.keel_recovery.proofs.Crashing.{crash_turns}
@@ -91,41 +91,41 @@ none_where s b command is none = ap (λ (c : Bool). rest_reply c command) is ∙
 
 -- ---- reads
 
-pub read_run : (old new : CoreView) (key : List ℕ) (answer : Got) (replies : List Reply) → Turns old (Getting key answer) new → reading_replies answer ≡ Some replies
+pub read_run : (old new : CoreView) (key : List ℕ) (answer : Got) (replies : List Reply) → TakesTurn old (Getting key answer) new → reading_replies answer ≡ Some replies
     → (s : State) → StandsFor old s → Leads (view.Open new) (CarriesOnStore s (Get key) replies)
 read_run old new key answer replies turns prints s stands =
     let gone = turns.goes s stands in
     let next = after s (Getting key answer) new.device in
     (next, gone.1, calls_on_store s next (Get key) replies (none_where s true (Get key) (open_mode old s stands) refl) (record { answer = answer; turn = (gone.0, refl); prints = prints }))
 
-pub read_cut : (old new : CoreView) (key : List ℕ) → Turns old (Getting key got.OutOfMemory) new
+pub read_cut : (old new : CoreView) (key : List ℕ) → TakesTurn old (Getting key got.OutOfMemory) new
     → (s : State) → StandsFor old s → Leaves (view.Open new) (StoreCutShort s (Get key))
 read_cut old new key turns s stands =
     let gone = turns.goes s stands in
     let next = after s (Getting key got.OutOfMemory) new.device in
     (next, open_device new next gone.1, partly_on_store s next (Get key) (none_where s true (Get key) (open_mode old s stands) refl) (gone.0, refl))
 
-pub read_told : (old new : CoreView) (key : List ℕ) (answer : Got) → Turns old (Getting key answer) new → AreTold old.outcomes → AreTold new.outcomes
+pub read_told : (old new : CoreView) (key : List ℕ) (answer : Got) → TakesTurn old (Getting key answer) new → AreTold old.outcomes → AreTold new.outcomes
 read_told old new key answer turns told =
     told_in new (after (state_at old) (Getting key answer) new.device) (turns.goes (state_at old) (stands_at old)).1 told
 
 -- ---- scans
 
-pub scan_run : (old new : CoreView) (from to : List ℕ) (rows : List Row) → Turns old (Scanning from to (scanned.Rows rows)) new
+pub scan_run : (old new : CoreView) (from to : List ℕ) (rows : List Row) → TakesTurn old (Scanning from to (scanned.Rows rows)) new
     → (s : State) → StandsFor old s → CarriedOut {E = OutOfMemory} s (Scan from to) (view.Open new) (Ok (answers.Rows rows))
 scan_run old new from to rows turns s stands =
     let gone = turns.goes s stands in
     let next = after s (Scanning from to (scanned.Rows rows)) new.device in
     (next, gone.1, calls_on_store s next (Scan from to) (row_replies rows) (none_where s true (Scan from to) (open_mode old s stands) refl) (record { answer = scanned.Rows rows; turn = (gone.0, refl); prints = refl }))
 
-pub scan_cut : (old new : CoreView) (from to : List ℕ) → Turns old (Scanning from to scanned.OutOfMemory) new
+pub scan_cut : (old new : CoreView) (from to : List ℕ) → TakesTurn old (Scanning from to scanned.OutOfMemory) new
     → (s : State) → StandsFor old s → Leaves (view.Open new) (StoreCutShort s (Scan from to))
 scan_cut old new from to turns s stands =
     let gone = turns.goes s stands in
     let next = after s (Scanning from to scanned.OutOfMemory) new.device in
     (next, open_device new next gone.1, partly_on_store s next (Scan from to) (none_where s true (Scan from to) (open_mode old s stands) refl) (gone.0, refl))
 
-pub scan_told : (old new : CoreView) (from to : List ℕ) (answer : Scanned) → Turns old (Scanning from to answer) new → AreTold old.outcomes → AreTold new.outcomes
+pub scan_told : (old new : CoreView) (from to : List ℕ) (answer : Scanned) → TakesTurn old (Scanning from to answer) new → AreTold old.outcomes → AreTold new.outcomes
 scan_told old new from to answer turns told =
     told_in new (after (state_at old) (Scanning from to answer) new.device) (turns.goes (state_at old) (stands_at old)).1 told
 
@@ -241,7 +241,7 @@ module _ (s next : State) where
   listed store is_one_open answer (Err e) is stands device turn printed cut =
       (next, device, partly_on_store s next Files (none_where s is_one_open Files is (none_of_list is_one_open)) (subst (λ (o : Result (List Entry) DiskError). Turn s (Listing o) next) (cut refl) turn))
 
-pub list_told : (old new : CoreView) (answer : Result (List Entry) DiskError) → Turns old (Listing answer) new → AreTold old.outcomes → AreTold new.outcomes
+pub list_told : (old new : CoreView) (answer : Result (List Entry) DiskError) → TakesTurn old (Listing answer) new → AreTold old.outcomes → AreTold new.outcomes
 list_told old new answer turns told =
     told_in new (after (state_at old) (Listing answer) new.device) (turns.goes (state_at old) (stands_at old)).1 told
 

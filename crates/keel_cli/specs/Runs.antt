@@ -9,7 +9,7 @@ use Rattle.keel_disk.specs.declared.error.DiskError.TheVariants as disk
 use Rattle.keel_disk.specs.declared.rule.Pick.{Pick}
 use Rattle.keel_reading.specs.declared.refusal.OpenRefusal.{OpenRefusal}
 use Rattle.keel_reading.specs.declared.refusal.OpenRefusal.TheVariants as refusal
-use Rattle.keel_reading.specs.declared.replay.Found.{Found}
+use Rattle.keel_reading.specs.declared.replay.FoundLogs.{FoundLogs}
 use Rattle.keel_machine.specs.declared.answers.Got.{Got}
 use Rattle.keel_machine.specs.declared.answers.Got.TheVariants as got
 use Rattle.keel_machine.specs.declared.answers.Scanned.{Scanned}
@@ -29,7 +29,7 @@ use Rattle.keel_cli.specs.Sessions.{Session, with_store}
 -- ---- replies to calls
 
 -- the reply that prints an opening; want of memory has none
-abbrev pub opening_replies : Result Found OpenRefusal → Option (List Reply)
+abbrev pub opening_replies : Result FoundLogs OpenRefusal → Option (List Reply)
 opening_replies (Ok found) = Some (reply.Opened found.last_seq ∷ [])
 opening_replies (Err (refusal.Device fault)) = Some (reply.RefusedDevice fault ∷ [])
 opening_replies (Err (refusal.NoCurrent file)) = Some (reply.RefusedNoCurrent file ∷ [])
@@ -68,7 +68,7 @@ pub record Rests {S : Type 0} (old : S) (reply : Reply) (replies : List Reply) (
 
 -- an opening with these replies
 pub record OpenRun (old : State) (replies : List Reply) (new : State) : Type 0 where
-  pub answer : Result Found OpenRefusal
+  pub answer : Result FoundLogs OpenRefusal
   pub turn : Turn old (Opening answer) new
   pub prints : opening_replies answer ≡ Some replies
 

@@ -27,13 +27,13 @@ use Rattle.keel_core.specs.declared.flight.Flight.{Flight}
 use Rattle.keel_core.specs.Flights.{flying}
 use Rattle.keel_core.specs.Orders.{IsSettled}
 use Rattle.keel_core.specs.Queues.{on_its_way, outcome_told}
-use Rattle.keel_core.specs.Views.{AreAlike, Beyond, CoreView, StandsFor, Fits, Turns, failures_of, state_of, point_in, calls_in}
+use Rattle.keel_core.specs.Views.{AreAlike, Beyond, CoreView, StandsFor, Fits, TakesTurn, failures_of, state_of, point_in, calls_in}
 use Rattle.keel_core.proofs.Resting.{stopping_is}
 use Rattle.keel_core.proofs.Stories.{part_point}
 
 -- It is enough to show it of the state of what is beyond the core.
 pub turns_by_story : (old new : CoreView) (event : Event)
-    → ((beyond : Beyond) → Fits old beyond → Answers (state_of old beyond) event new.device × StandsFor new (after (state_of old beyond) event new.device)) → Turns old event new
+    → ((beyond : Beyond) → Fits old beyond → Answers (state_of old beyond) event new.device × StandsFor new (after (state_of old beyond) event new.device)) → TakesTurn old event new
 turns_by_story old new event shown = record {
   goes = λ s stands.
       subst (λ (t : State). Answers t event new.device × StandsFor new (after t event new.device)) (sym stands.state_is)
@@ -43,7 +43,7 @@ turns_by_story old new event shown = record {
 -- ---- the files are listed
 
 pub listed_goes : (view : CoreView) (device : Seen) (answer : Result (List Entry) DiskError) → IfOk answer (TellsListing view.device.told) → IfOk answer IsListing
-    → IsQuiet view.device (disk_fault answer) device → Turns view (Listing answer) (record view { device = device })
+    → IsQuiet view.device (disk_fault answer) device → TakesTurn view (Listing answer) (record view { device = device })
 listed_goes view device answer tells order quiet = turns_by_story view (record view { device = device }) (Listing answer) (λ beyond fits. (
   record { tells = tells; order = order; quiet = quiet },
   record { beyond = beyond; state_is = refl; fits = record { story = fits.story; group = fits.group } },
@@ -116,7 +116,7 @@ same_stands : (view : CoreView) (beyond : Beyond) → Fits view beyond → Stand
 same_stands view beyond fits = record { beyond = beyond; state_is = refl; fits = record { story = fits.story; group = fits.group } }
 
 -- a failure stands
-pub stopped_goes : (view : CoreView) (batch : Batch) (fault : Fault) → size_refusal batch ≡ None → view.failed ≡ Some fault → Turns view (Admitting batch (Stopped (failure_of fault))) view
+pub stopped_goes : (view : CoreView) (batch : Batch) (fault : Fault) → size_refusal batch ≡ None → view.failed ≡ Some fault → TakesTurn view (Admitting batch (Stopped (failure_of fault))) view
 stopped_goes view batch fault sized failed = turns_by_story view view (Admitting batch (Stopped (failure_of fault))) (λ beyond fits. (
   (
     tests (size_refusal batch) (stopping_of beyond.paranoid (failures_of view.failed)) _ _ _ _ _ _ _ _ _ (Some (failure_of fault)) sized
@@ -138,7 +138,7 @@ abbrev pub seq_brought : CoreView → Batch → ℕ → ℕ
 seq_brought view batch handed_seq = handed_seq + (count_ops (ops_of (batches_of_group view.group)) + count_ops (ops_of (batches_of view.waiting))) + length batch.ops
 
 pub seq_spent : (view : CoreView) (batch : Batch) (last_seq handed_seq : ℕ) → IsTested view batch last_seq handed_seq → 2 ^ 56 < seq_brought view batch handed_seq
-    → Turns view (Admitting batch (Spent Sequence)) view
+    → TakesTurn view (Admitting batch (Spent Sequence)) view
 seq_spent view batch last_seq handed_seq t over = turns_by_story view view (Admitting batch (Spent Sequence)) (λ beyond fits.
     let is = seq_is view batch last_seq handed_seq beyond fits t.last t.handed in (
       (tests (size_refusal batch) (stopping_of beyond.paranoid (failures_of view.failed)) _ _ _ true _ _ _ _ _ None t.sized (calm_stops view beyond t.calm) (is_lt (2 ^ 56) _ (omega (arith, over, is))) refl refl, refl),
@@ -146,7 +146,7 @@ seq_spent view batch last_seq handed_seq t over = turns_by_story view view (Admi
     ))
 
 pub ticket_spent : (view : CoreView) (batch : Batch) (last_seq handed_seq : ℕ) → IsTested view batch last_seq handed_seq → seq_brought view batch handed_seq ≤ 2 ^ 56 → 2 ^ 56 ≤ view.last_ticket
-    → Turns view (Admitting batch (Spent Ticket)) view
+    → TakesTurn view (Admitting batch (Spent Ticket)) view
 ticket_spent view batch last_seq handed_seq t enough spent = turns_by_story view view (Admitting batch (Spent Ticket)) (λ beyond fits.
     let is = seq_is view batch last_seq handed_seq beyond fits t.last t.handed in (
       (tests (size_refusal batch) (stopping_of beyond.paranoid (failures_of view.failed)) _ _ _ false true _ _ _ _ None t.sized (calm_stops view beyond t.calm) (not_lt (2 ^ 56) _ (omega (arith, enough, is))) (is_le (2 ^ 56) view.last_ticket spent) refl, refl),
@@ -155,9 +155,9 @@ ticket_spent view batch last_seq handed_seq t enough spent = turns_by_story view
 
 pub queue_full : (view : CoreView) (batch : Batch) (last_seq handed_seq waiting : ℕ) → IsTested view batch last_seq handed_seq → waiting ≡ length view.waiting → 64 ≤ waiting
     → seq_brought view batch handed_seq ≤ 2 ^ 56 → view.last_ticket < 2 ^ 56
-    → Turns view (Admitting batch (QueueFull waiting)) view
+    → TakesTurn view (Admitting batch (QueueFull waiting)) view
 queue_full view batch last_seq handed_seq waiting t count full enough ticket =
-    subst (λ n. Turns view (Admitting batch (QueueFull n)) view) (sym count) (turns_by_story view view (Admitting batch (QueueFull (length view.waiting))) (λ beyond fits.
+    subst (λ n. TakesTurn view (Admitting batch (QueueFull n)) view) (sym count) (turns_by_story view view (Admitting batch (QueueFull (length view.waiting))) (λ beyond fits.
     let is = seq_is view batch last_seq handed_seq beyond fits t.last t.handed in (
       (
         tests (size_refusal batch) (stopping_of beyond.paranoid (failures_of view.failed)) _ _ _ false false true _ _ _ None t.sized (calm_stops view beyond t.calm) (not_lt (2 ^ 56) _ (omega (arith, enough, is))) (not_le (2 ^ 56) view.last_ticket ticket)
@@ -169,7 +169,7 @@ queue_full view batch last_seq handed_seq waiting t count full enough ticket =
 
 pub queued_goes : (view : CoreView) (batch : Batch) (last_seq handed_seq : ℕ) → IsTested view batch last_seq handed_seq → length view.waiting < 64
     → seq_brought view batch handed_seq ≤ 2 ^ 56 → view.last_ticket < 2 ^ 56
-    → Turns view (Admitting batch (Queued (view.last_ticket + 1)))
+    → TakesTurn view (Admitting batch (Queued (view.last_ticket + 1)))
     (record view { waiting = view.waiting ++ ticketed (view.last_ticket + 1) batch ∷ []; last_ticket = view.last_ticket + 1 })
 queued_goes view batch last_seq handed_seq t few enough ticket =
     turns_by_story view (record view { waiting = view.waiting ++ ticketed (view.last_ticket + 1) batch ∷ []; last_ticket = view.last_ticket + 1 })
@@ -194,7 +194,7 @@ same_way : (ticket : ℕ) (group running : Option Group) (waiting : List Tickete
 same_way ticket group running waiting alike = ap (λ (l : List ℕ). list_any (λ other. other == ticket) (l ++ tickets_of waiting)) (sym (same_tickets group running alike))
 
 pub taken_goes : (view : CoreView) (ticket : ℕ) (told : Outcome) → told ≡ outcome_told ticket view.outcomes view.group view.waiting
-    → Turns view (TakingOutcome ticket told) (record view { outcomes = filter (λ entry. not (entry.0 == ticket)) view.outcomes })
+    → TakesTurn view (TakingOutcome ticket told) (record view { outcomes = filter (λ entry. not (entry.0 == ticket)) view.outcomes })
 taken_goes view ticket told is =
     turns_by_story view (record view { outcomes = filter (λ entry. not (entry.0 == ticket)) view.outcomes }) (TakingOutcome ticket told) (λ beyond fits. (
       (

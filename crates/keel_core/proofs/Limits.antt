@@ -15,7 +15,7 @@ use Rattle.keel_machine.specs.Admission.{AdmitAnswers, admit_after, is_key_lengt
 use Rattle.keel_machine.specs.States.{State, with_device}
 use Rattle.keel_machine.specs.Tests.{first_some, when}
 use Rattle.keel_machine.specs.Turns.{Admitting}
-use Rattle.keel_core.specs.Views.{CoreView, Turns, state_of}
+use Rattle.keel_core.specs.Views.{CoreView, TakesTurn, state_of}
 use Rattle.keel_core.proofs.Admitting.{turns_by_story}
 
 -- ---- tests in an order
@@ -153,7 +153,7 @@ same_behind s batch (admit.QueueFull waiting) bad = absurd bad
 same_behind s batch admit.OutOfMemory bad = absurd bad
 
 -- a batch that is refused for its size leaves all as it was
-pub refused_goes : (view : CoreView) (batch : Batch) (answer : Admit) → size_refusal batch ≡ Some answer → Turns view (Admitting batch answer) view
+pub refused_goes : (view : CoreView) (batch : Batch) (answer : Admit) → size_refusal batch ≡ Some answer → TakesTurn view (Admitting batch answer) view
 refused_goes view batch answer is =
     let bad : IsBadSize answer = subst WhereBadSize is (bad_size batch) in
     turns_by_story view view (Admitting batch answer) (λ beyond fits.

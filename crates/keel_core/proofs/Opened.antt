@@ -13,7 +13,7 @@ use Rattle.keel_machine.specs.Opening.{GoesOnWith, continues, point_found, story
 use Rattle.keel_machine.specs.States.{State, Story, IsPartOf, new_story, point_of}
 use Rattle.keel_machine.specs.Turns.{Opening, Answers}
 use Rattle.keel_reading.specs.declared.refusal.OpenRefusal.{OpenRefusal}
-use Rattle.keel_reading.specs.declared.replay.Found.{Found}
+use Rattle.keel_reading.specs.declared.replay.FoundLogs.{FoundLogs}
 use Rattle.keel_reading.specs.Answers.{ReadAnswers, NamesOther, RunsOn, fault_in}
 use Rattle.keel_reading.proofs.Founding.{found_reads, last_found}
 use Rattle.keel_reading.proofs.OneReading.{reads_once}
@@ -29,13 +29,13 @@ use Rattle.keel_core.specs.Trails.{IsEmptyTrail, point_read}
 use Rattle.keel_core.proofs.Stories.{part_self}
 
 -- a directory has one reading: what is found is what the story says
-found_so : (goes : Bool) (s : State) (found : Found) → WhereGoesOn goes s → ReadAnswers s.device.told (Ok found) → RunsOn found → GoesOnWith goes s.story found
+found_so : (goes : Bool) (s : State) (found : FoundLogs) → WhereGoesOn goes s → ReadAnswers s.device.told (Ok found) → RunsOn found → GoesOnWith goes s.story found
 found_so false s found h answers runs = tt
 found_so true s found h answers runs =
     let is : ReadAnswers (Some h.told) (Ok found) = subst (λ (t : Option Told). ReadAnswers t (Ok found)) h.is_told answers in
     reads_once (image_read h.told.state) (point_found found) (point_of s.story) (found_reads (image_read h.told.state) found (is h.names) runs) h.reads
 
-part_opened : (goes : Bool) (s : State) (found : Found) → WhereGoesOn goes s → GoesOnWith goes s.story found → IsPartOf (new_story (point_found found)) (story_opened goes found s.story)
+part_opened : (goes : Bool) (s : State) (found : FoundLogs) → WhereGoesOn goes s → GoesOnWith goes s.story found → IsPartOf (new_story (point_found found)) (story_opened goes found s.story)
 part_opened false s found h same = part_self (new_story (point_found found))
 part_opened true s found h same = record {
   earlier = s.story.log;
@@ -45,7 +45,7 @@ part_opened true s found h same = record {
   floor_is = h.all_firm ∙ sym (add-zero (length s.story.log));
 }
 
-pub opens : (s : State) (before device : Seen) (found : Found) → s.device ≡ before → Expects s → ReadAnswers before.told (Ok found) → RunsOn found
+pub opens : (s : State) (before device : Seen) (found : FoundLogs) → s.device ≡ before → Expects s → ReadAnswers before.told (Ok found) → RunsOn found
     → IsQuiet before None device → Opens s (fresh device found)
 opens s before device found is expects answers runs quiet =
     let read : ReadAnswers s.device.told (Ok found) = subst (λ (d : Seen). ReadAnswers d.told (Ok found)) (sym is) answers in
@@ -68,12 +68,12 @@ opens s before device found is expects answers runs quiet =
     }
 
 pub refuses : (s : State) (before device : Seen) (refusal : OpenRefusal) → s.device ≡ before → ReadAnswers before.told (Err refusal) → NamesOther before.told (Err refusal)
-    → IsQuiet before (fault_in {T = Found} (Err refusal)) device → Answers s (Opening (Err refusal)) device
+    → IsQuiet before (fault_in {T = FoundLogs} (Err refusal)) device → Answers s (Opening (Err refusal)) device
 refuses s before device refusal is answers other quiet =
     subst (λ (d : Seen). Answers (record s { device = d }) (Opening (Err refusal)) device) (sym is) (record { cause = answers; other = other; finds = tt; quiet = quiet })
 
 -- what is true of every core is true of one that was just opened
-pub new_in_order : (mem : MemShown) (trail : Trail) (queue : Queue) (log : Option OwnLog) (failed : Option Fault) (found : Found) → IsEmptyTrail found.batches trail → IsNewQueue queue → RunsOn found → IsPlaced mem (point_read found.batches)
+pub new_in_order : (mem : MemShown) (trail : Trail) (queue : Queue) (log : Option OwnLog) (failed : Option Fault) (found : FoundLogs) → IsEmptyTrail found.batches trail → IsNewQueue queue → RunsOn found → IsPlaced mem (point_read found.batches)
     → IsInOrder mem trail queue log failed found.last_seq found.last_seq found.next_file
 new_in_order mem trail queue log failed found empty q runs placed = record {
   seq = sym (last_found found runs) ∙ ap (λ (t : Story). (point_of t).seq) (sym empty.shows);

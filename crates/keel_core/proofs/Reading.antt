@@ -9,7 +9,7 @@ use Rattle.keel_machine.specs.declared.answers.Scanned.TheVariants as scanned
 use Rattle.keel_machine.specs.Reads.{AreRowsOf, GetAnswers, ScanAnswers}
 use Rattle.keel_machine.specs.States.{IsPartOf}
 use Rattle.keel_machine.specs.Turns.{Getting, Scanning}
-use Rattle.keel_core.specs.Views.{Beyond, CoreView, Turns, own_state, state_of}
+use Rattle.keel_core.specs.Views.{Beyond, CoreView, TakesTurn, own_state, state_of}
 use Rattle.keel_core.proofs.Admitting.{turns_by_story}
 use Rattle.keel_core.proofs.Calling.{quiet_same}
 use Rattle.keel_core.proofs.Stories.{part_point}
@@ -19,7 +19,7 @@ got_in view beyond key (Value value) part h = subst (λ (p : Point). get p.value
 got_in view beyond key Absent part h = subst (λ (p : Point). get p.values key ≡ None) (part_point view.trail beyond.story part) h
 got_in view beyond key OutOfMemory part h = tt
 
-pub got_goes : (view : CoreView) (key : List ℕ) (got : Got) → GetAnswers (own_state view) key got → Turns view (Getting key got) view
+pub got_goes : (view : CoreView) (key : List ℕ) (got : Got) → GetAnswers (own_state view) key got → TakesTurn view (Getting key got) view
 got_goes view key got h = turns_by_story view view (Getting key got) (λ beyond fits. (
   (got_in view beyond key got fits.story h, quiet_same view.device),
   record { beyond = beyond; state_is = refl; fits = record { story = fits.story; group = fits.group } },
@@ -30,7 +30,7 @@ scanned_in : (view : CoreView) (beyond : Beyond) (from to : List ℕ) (answer : 
 scanned_in view beyond from to (scanned.Rows rows) part h = subst (λ (p : Point). AreRowsOf p.values from to rows) (part_point view.trail beyond.story part) h
 scanned_in view beyond from to scanned.OutOfMemory part h = tt
 
-pub scanned_goes : (view : CoreView) (from to : List ℕ) (answer : Scanned) → ScanAnswers (own_state view) from to answer → Turns view (Scanning from to answer) view
+pub scanned_goes : (view : CoreView) (from to : List ℕ) (answer : Scanned) → ScanAnswers (own_state view) from to answer → TakesTurn view (Scanning from to answer) view
 scanned_goes view from to answer h = turns_by_story view view (Scanning from to answer) (λ beyond fits. (
   (scanned_in view beyond from to answer fits.story h, quiet_same view.device),
   record { beyond = beyond; state_is = refl; fits = record { story = fits.story; group = fits.group } },

@@ -16,7 +16,7 @@ use Rattle.keel_machine.specs.WritingAfter.{failure_of}
 use Rattle.keel_base.specs.declared.failure.Counter.TheVariants.{FileNumber, JobNumber}
 use Rattle.keel_core.specs.Flights.{logs_of}
 use Rattle.keel_core.specs.Steps.{rested}
-use Rattle.keel_core.specs.Views.{AreAlike, Beyond, CoreView, StandsFor, Turns, ComesNearer, IsRest, failures_of, nothing_beyond, state_of, rest_of, Finds, calls_left}
+use Rattle.keel_core.specs.Views.{AreAlike, Beyond, CoreView, StandsFor, TakesTurn, ComesNearer, IsRest, failures_of, nothing_beyond, state_of, rest_of, Finds, calls_left}
 use Rattle.keel_core.proofs.Calling.{quiet_same}
 
 -- the failure of a log stops writes, whether doubtful ones are taken as severe or not
@@ -98,7 +98,7 @@ rest_turns view (step.Done job seq batches) s held rests stands is = absurd rest
 rest_turns view (step.Failed failure) s held rests stands is = absurd rests
 rest_turns view step.OutOfMemory s held rests stands is = absurd rests
 
-pub rest_goes : (view : CoreView) (made : WriteStep) (held : Option ℕ) → IsRest made → Some made ≡ rest_of view held → Turns view (Writing held made) (rested made view)
+pub rest_goes : (view : CoreView) (made : WriteStep) (held : Option ℕ) → IsRest made → Some made ≡ rest_of view held → TakesTurn view (Writing held made) (rested made view)
 rest_goes view made held rests is = record { goes = λ s stands. rest_turns view made s held rests stands (rest_same view s held stands ∙ sym is) }
 
 turned_nearer : (view : CoreView) (batches : ℕ) (failure : Failure) → 0 < length view.waiting → calls_left (rested (step.Turned batches failure) view) < calls_left view

@@ -7,7 +7,7 @@ use Rattle.keel_disk.specs.Seen.{Seen}
 use Rattle.keel_machine.specs.Opening.{continues, point_found}
 use Rattle.keel_machine.specs.States.{State, new_story, point_of}
 use Rattle.keel_machine.specs.Turns.{Opening, Answers, after}
-use Rattle.keel_reading.specs.declared.replay.Found.{Found}
+use Rattle.keel_reading.specs.declared.replay.FoundLogs.{FoundLogs}
 use Rattle.keel_reading.specs.Answers.{AreNames}
 use Rattle.keel_reading.specs.Reading.{Reads}
 use Rattle.keel_core.specs.Views.{CoreView, StandsFor, point_in}
@@ -32,7 +32,7 @@ abbrev pub Expects : State → Type 0
 Expects s = WhereGoesOn (continues s.mode s.footing) s
 
 -- what a store shows that was just opened
-abbrev pub fresh : Seen → Found → CoreView
+abbrev pub fresh : Seen → FoundLogs → CoreView
 fresh device found = record {
   device = device;
   trail = new_story (point_found found);
@@ -48,7 +48,7 @@ fresh device found = record {
 
 -- A store was opened: what it found has its cause, and it stands for the state behind.
 pub record Opens (s : State) (core : CoreView) : Type 0 where
-  pub found : Found
+  pub found : FoundLogs
   pub answers : Answers s (Opening (Ok found)) core.device
   pub stands : StandsFor core (after s (Opening (Ok found)) core.device)
   pub last_is : found.last_seq ≡ (point_in core).seq

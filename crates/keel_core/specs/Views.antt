@@ -101,7 +101,7 @@ own_state view = state_of view (nothing_beyond view)
 -- ---- clauses of the calls
 
 -- For each state that the core stands for, the answer has its cause, and the core then stands for the state behind the call.
-pub record Turns (old : CoreView) (event : Event) (new : CoreView) : Type 0 where
+pub record TakesTurn (old : CoreView) (event : Event) (new : CoreView) : Type 0 where
   pub goes : (s : State) → StandsFor old s → Answers s event new.device × StandsFor new (after s event new.device)
 
 -- What a write step answers where it makes no call. It depends on what the core shows alone.

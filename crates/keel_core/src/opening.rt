@@ -14,7 +14,7 @@ use crate::trail::Trail;
 use keel_base::OutOfMemory;
 use keel_disk::Disk;
 use keel_mem::Mem;
-use keel_reading::{Found, OpenRefusal, read_logs};
+use keel_reading::{FoundLogs, OpenRefusal, read_logs};
 use std::alloc::Global;
 
 /// An opening that is refused hands the device back.
@@ -50,12 +50,12 @@ impl<D: Disk> Core<D> {
     }
 
     // The store behind what was found, which writes to a log of its own.
-    fn from_found(alloc: Global, disk: D, found: Found, mem: Mem) -> Core<D>
+    fn from_found(alloc: Global, disk: D, found: FoundLogs, mem: Mem) -> Core<D>
         requires runs { RunsOn found }
         requires placed { IsPlaced mem (point_read found.batches) }
         ensures { result ≡ fresh (D.seen disk) found }
     {
-        let Found {
+        let FoundLogs {
             batches,
             last_seq,
             next_file,

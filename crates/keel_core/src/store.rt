@@ -8,7 +8,7 @@ ghost use Rattle.keel_machine.specs.declared.answers.Outcome.TheVariants.{Waitin
 ghost use Rattle.keel_machine.specs.Turns as event;
 ghost use Rattle.keel_machine.specs.Turns.{Admitting, Getting, Scanning, TakingOutcome};
 ghost use Rattle.keel_core.specs.Trails.{shown};
-ghost use Rattle.keel_core.specs.Views.{Turns, point_in, calls_left, with_device};
+ghost use Rattle.keel_core.specs.Views.{TakesTurn, point_in, calls_left, with_device};
 
 use crate::log::{OwnLog, log_failure};
 use crate::queue::Queue;
@@ -90,7 +90,7 @@ impl<D: Disk> Core<D> {
 
     /// Takes a batch in, where nothing refuses it. A batch that isn't queued is dropped.
     pub fn admit(&mut self, batch: Batch) -> Admit
-        ensures turn { Turns self.old (Admitting batch result) self.new }
+        ensures turn { TakesTurn self.old (Admitting batch result) self.new }
     {
         if let Some(refusal) = size_refusal(&batch) {
             return refusal;
@@ -129,7 +129,7 @@ impl<D: Disk> Core<D> {
 
     /// What became of a ticket. An outcome is handed out once.
     pub fn take_outcome(&mut self, ticket: u64) -> Outcome
-        ensures turn { Turns self.old (TakingOutcome ticket result) self.new }
+        ensures turn { TakesTurn self.old (TakingOutcome ticket result) self.new }
         ensures waits { result ≡ Waiting → 0 < calls_left self.old }
         ensures same { calls_left self.new ≡ calls_left self.old }
     {
@@ -138,7 +138,7 @@ impl<D: Disk> Core<D> {
 
     /// The value of a key among the published batches.
     pub fn get(&mut self, alloc: Global, key: &[u8]) -> Got
-        ensures turn { Turns self.old (Getting key.now result) self.new }
+        ensures turn { TakesTurn self.old (Getting key.now result) self.new }
     {
         match self.mem.get(key) {
             Some(found) => match found.kind {
@@ -155,7 +155,7 @@ impl<D: Disk> Core<D> {
     /// The published keys of a range with their values, by key: from one key on and below another. An empty `to` is no
     /// upper bound.
     pub fn scan(&mut self, alloc: Global, from: &[u8], to: &[u8]) -> Scanned
-        ensures turn { Turns self.old (Scanning from.now to.now result) self.new }
+        ensures turn { TakesTurn self.old (Scanning from.now to.now result) self.new }
     {
         match rows_between(alloc, &self.mem, from, to) {
             Ok(rows) => Scanned::Rows(rows),
@@ -165,7 +165,7 @@ impl<D: Disk> Core<D> {
 
     /// The files of the directory with their sizes, in the order of their printed names.
     pub fn list(&mut self, alloc: Global) -> Result<Listing, DiskError>
-        ensures turn { Turns self.old (event.Listing result) self.new }
+        ensures turn { TakesTurn self.old (event.Listing result) self.new }
     {
         self.disk.list(alloc)
     }

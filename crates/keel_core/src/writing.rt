@@ -25,7 +25,7 @@ ghost use Rattle.keel_machine.specs.WritingAfter.{failure_of};
 ghost use Rattle.keel_core.specs.Orders.{HasLog};
 ghost use Rattle.keel_core.specs.Queues.{goes_on};
 ghost use Rattle.keel_core.specs.Steps.{Makes, IsNext, NextIs, formed, handed_over, all_published, published_step, done, done_step, tried, rested, stopped};
-ghost use Rattle.keel_core.specs.Views.{Turns, MakesCall, ComesNearer, CanGoOn, IsRest, Finds, draws_next, rest_of};
+ghost use Rattle.keel_core.specs.Views.{TakesTurn, MakesCall, ComesNearer, CanGoOn, IsRest, Finds, draws_next, rest_of};
 
 use crate::flight::Act;
 use crate::log::{OwnLog, log_failure};
@@ -44,7 +44,7 @@ impl<D: Disk> Core<D> {
     /// Makes the next call of the group in flight, or the first one of the queue's next group.
     /// `held` is the number of the group that the caller goes on with, where it holds one.
     pub fn write_step(&mut self, alloc: Global, held: Option<u64>) -> WriteStep
-        ensures turn { Turns self.old (Writing held result) self.new }
+        ensures turn { TakesTurn self.old (Writing held result) self.new }
         ensures nearer { ComesNearer self.old result self.new }
     {
         match self.rest(held) {

@@ -210,7 +210,7 @@ impl<'a, R: Files<File = File> + AllocGlobal> Disk for DirDisk<'a, R> {
         &mut self,
         alloc: Global,
         name: FileName,
-        place: u64,
+        offset: u64,
         length: u32,
     ) -> Result<Bytes, ReadError>
         ensures bound { IfOk result (AreAtMost length) }
@@ -218,7 +218,7 @@ impl<'a, R: Files<File = File> + AllocGlobal> Disk for DirDisk<'a, R> {
         ensures plain { IsPlainOrFull (read_fault result) }
         ensures quiet { IsQuiet (seen_of self.old) (read_fault result) (seen_of self.new) }
     {
-        let outcome = self.folder.read_at(alloc, name, place, length);
+        let outcome = self.folder.read_at(alloc, name, offset, length);
         self.tally.read(outcome)
     }
 

@@ -36,20 +36,20 @@ fn take_some<F: Read>(alloc: Global, file: &mut F, most: usize) -> Result<Bytes,
     Ok(bytes)
 }
 
-// Reads a file from a place on, to its end or so many bytes.
+// Reads a file from an offset on, to its end or so many bytes.
 fn read_from<F: Read + Seek>(
     alloc: Global,
     file: &mut F,
-    place: u64,
+    offset: u64,
     most: usize,
 ) -> Result<Bytes, Stop>
     ensures { IfOk result (λ bytes. length bytes ≤ most) }
 {
-    // No file is that long, and the host takes no such place.
-    if place > i64::MAX as u64 {
+    // No file is that long, and the host takes no such offset.
+    if offset > i64::MAX as u64 {
         return Ok(Bytes::new(alloc));
     }
-    file.seek(SeekFrom::Start(place))?;
+    file.seek(SeekFrom::Start(offset))?;
     take_some(alloc, file, most)
 }
 
@@ -235,12 +235,12 @@ impl<'a, R: Files<File = File> + AllocGlobal> Folder<'a, R> {
         self.held.sync_cuts()
     }
 
-    /// The bytes of a file from a place on, at most so many. `None` comes where the name is absent.
+    /// The bytes of a file from an offset on, at most so many. `None` comes where the name is absent.
     pub fn read_at(
         &mut self,
         alloc: Global,
         name: FileName,
-        place: u64,
+        offset: u64,
         most: u32,
     ) -> Result<Option<Bytes>, Stop>
         ensures few { IfOk result (λ found. IfSome found (λ bytes. length bytes ≤ most)) }
@@ -250,7 +250,7 @@ impl<'a, R: Files<File = File> + AllocGlobal> Folder<'a, R> {
             return Ok(None);
         };
         let held = &mut self.held.files[at];
-        Ok(Some(read_from(alloc, &mut held.file, place, most as usize)?))
+        Ok(Some(read_from(alloc, &mut held.file, offset, most as usize)?))
     }
 
     /// How many bytes a file has. `None` comes where the name is absent.

@@ -36,7 +36,7 @@ next_version place (Some version) next = next version
 -- the version behind records that are edits which apply in turn, or the place of the first that isn't
 abbrev pub behind_edits : Contents → List LogRecord → Result Contents Refusal
 behind_edits version [] = Ok version
-behind_edits version (r ∷ rs) = next_version r.place (behind_edit version (edit_of r.payload)) (λ next. behind_edits next rs)
+behind_edits version (r ∷ rs) = next_version r.offset (behind_edit version (edit_of r.payload)) (λ next. behind_edits next rs)
 
 -- a manifest holds an edit at least
 abbrev pub version_of : List LogRecord → Result Contents Refusal

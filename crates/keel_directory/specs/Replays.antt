@@ -56,7 +56,7 @@ abbrev pub ◌>>=◌ : {A B : Type 0} → Result A Refusal → (A → Result B R
 
 abbrev pub batch_found : ℕ → LogRecord → Result (ℕ × List Op) ℕ → Result Replayed Refusal
 batch_found log r (Ok batch) = Ok (record { log = log; seq = batch.0; ops = batch.1 })
-batch_found log r (Err left) = Err (bad_log log r.place)
+batch_found log r (Err left) = Err (bad_log log r.offset)
 
 -- the records are batches, or the first that isn't one is named
 abbrev pub batches_of : ℕ → List LogRecord → Result (List Replayed) Refusal

@@ -107,7 +107,7 @@ fn batch_in(alloc: Global, log: u64, found: &LogRecord) -> Result<Replayed, Dire
         }),
         Err(BatchError::BadBatch { .. }) => Err(DirectoryRefusal::BadLog {
             log,
-            at: found.place,
+            at: found.offset,
         }),
         Err(BatchError::OutOfMemory) => Err(DirectoryRefusal::OutOfMemory),
     }

@@ -41,9 +41,9 @@ fn behind_record(
     version: Version,
     found: &LogRecord,
 ) -> Result<Version, DirectoryRefusal>
-    ensures { Answers (λ next. next) (λ answer. answer ≡ spec.next_version found.now.place (spec.behind_edit version (edit_of found.now.payload)) (λ next. Ok next)) result }
+    ensures { Answers (λ next. next) (λ answer. answer ≡ spec.next_version found.now.offset (spec.behind_edit version (edit_of found.now.payload)) (λ next. Ok next)) result }
 {
-    let at = found.place;
+    let at = found.offset;
     let edit = match decode(alloc, found.payload.as_slice()) {
         Ok(edit) => edit,
         Err(EditError::BadShape { .. }) => return Err(DirectoryRefusal::DamagedManifest { at }),

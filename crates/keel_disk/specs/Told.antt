@@ -41,10 +41,10 @@ Changes change _ answer _ = ⊥
 abbrev pub bytes_of : FileName → Told → Option (List ℕ)
 bytes_of name told = option_map (λ number. (file_at number told.state.files).read) (file_of name told.state)
 
--- an Ok gives the bytes from the place on, at most so many
+-- an Ok gives the bytes from the offset on, at most so many
 abbrev pub TellsRead : FileName → ℕ → ℕ → Option Told → Result (List ℕ) ReadError → Type 0
-TellsRead name place size (Some told) (Ok bytes) = option_map (λ all. take size (drop place all)) (bytes_of name told) ≡ Some bytes
-TellsRead name place size _ _ = Unit {0}
+TellsRead name offset size (Some told) (Ok bytes) = option_map (λ all. take size (drop offset all)) (bytes_of name told) ≡ Some bytes
+TellsRead name offset size _ _ = Unit {0}
 
 -- an Ok gives the size
 abbrev pub TellsSize : FileName → Option Told → Result ℕ ReadError → Type 0

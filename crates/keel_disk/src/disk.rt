@@ -58,15 +58,15 @@ pub trait Disk: Drop {
     fn sync_dir(&mut self, alloc: Global) -> Result<(), DiskError>
         ensures { Calls (seen self.old) Change.SyncDir result (seen self.new) };
 
-    /// The bytes of a file from a place on, as many as there are and at most `length`.
+    /// The bytes of a file from an offset on, as many as there are and at most `length`.
     fn read_at(
         &mut self,
         alloc: Global,
         name: FileName,
-        place: u64,
+        offset: u64,
         length: u32,
     ) -> Result<Bytes, ReadError>
-        ensures bytes { TellsRead name place length (seen self.old).told result }
+        ensures bytes { TellsRead name offset length (seen self.old).told result }
         ensures bound { IfOk result (AreAtMost length) }
         ensures absent { TellsAbsent name (seen self.old).told result }
         ensures quiet { IsQuiet (seen self.old) (read_fault result) (seen self.new) };

@@ -8,7 +8,7 @@ use Rattle.keel_frag.specs.Pieces.{Piece, fragment, trailer, Progress, start, af
 use Rattle.keel_frag.specs.Reading.{IsReading, HasReading, HasRecords}
 use Rattle.keel_frag.specs.Parsing.{BeginWith, NoPiece}
 use Rattle.keel_frag.proofs.Heads.{head_before}
-use Rattle.keel_frag.proofs.Laying.{HasRead, HasRead-start, goes_on, goes_no_further, place-size, size_positive, size_within}
+use Rattle.keel_frag.proofs.Laying.{HasRead, HasRead-start, goes_on, goes_no_further, offset-size, size_positive, size_within}
 
 -- ---- whether a list begins with another
 
@@ -102,19 +102,19 @@ some_piece bytes room inside small =
 -- ---- reading to the end, with that many bytes left at most
 
 module _ (bytes : List ℕ) where
-  next_piece : (p : Progress) → ((x : Piece) × BeginWith (drop p.place bytes) (room_at p.place) (is_some p.begun) x) ⊎ NoPiece (drop p.place bytes) (room_at p.place) (is_some p.begun)
-  next_piece p = some_piece (drop p.place bytes) (room_at p.place) (is_some p.begun) (omega arith)
+  next_piece : (p : Progress) → ((x : Piece) × BeginWith (drop p.offset bytes) (room_at p.offset) (is_some p.begun) x) ⊎ NoPiece (drop p.offset bytes) (room_at p.offset) (is_some p.begun)
+  next_piece p = some_piece (drop p.offset bytes) (room_at p.offset) (is_some p.begun) (omega arith)
 
-  reads_from : (left : ℕ) (p : Progress) → HasRead bytes p → length bytes - p.place ≤ left → (read : Progress) × IsReading bytes read
+  reads_from : (left : ℕ) (p : Progress) → HasRead bytes p → length bytes - p.offset ≤ left → (read : Progress) × IsReading bytes read
   reads_from zero p h within =
       elim (next_piece p) [
-        | inl x ↦ absurd (omega (arith, size_positive p.place x.0 x.1.fits, size_within bytes p h (room_at p.place) (is_some p.begun) x.0 x.1))
+        | inl x ↦ absurd (omega (arith, size_positive p.offset x.0 x.1.fits, size_within bytes p h (room_at p.offset) (is_some p.begun) x.0 x.1))
         | inr none ↦ (p, goes_no_further bytes p h none)
       ]
   reads_from (suc left) p h within =
       elim (next_piece p) [
         | inl x ↦ reads_from left (after p x.0) (goes_on bytes p h x.0 x.1)
-            (omega (arith, place-size p x.0, size_positive p.place x.0 x.1.fits, size_within bytes p h (room_at p.place) (is_some p.begun) x.0 x.1))
+            (omega (arith, offset-size p x.0, size_positive p.offset x.0 x.1.fits, size_within bytes p h (room_at p.offset) (is_some p.begun) x.0 x.1))
         | inr none ↦ (p, goes_no_further bytes p h none)
       ]
 
@@ -124,4 +124,4 @@ has_reading bytes = reads_from bytes (length bytes) start (HasRead-start bytes) 
 pub has_records : HasRecords
 has_records bytes =
     let r = has_reading bytes in
-    (r.0.done, (r.0.place, (r.0.begun, r.1)))
+    (r.0.done, (r.0.offset, (r.0.begun, r.1)))

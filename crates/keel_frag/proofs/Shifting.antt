@@ -4,7 +4,7 @@ use Rattle.std.specs.List.{range_with_len}
 use Rattle.std.proofs.lemmas.List.FromFn.{get_or-map-range_with_len}
 use Rattle.std.specs.Int.Bits.{xor_assoc, xor_comm, xor_shr, xor_mod, xor_shifted, xor_zero_r, shifted_half, shifted_even}
 use Rattle.keel_frag.specs.Checksum.{polynomial, shift_bit, shift_bits}
-use Rattle.keel_frag.specs.declared.table.TheConstants.{TABLE}
+use Rattle.keel_frag.specs.declared.crc_table.TheConstants.{TABLE}
 
 -- ---- shifts and sums
 

@@ -27,11 +27,11 @@ fragments_cut (suc more) room first left long e =
     let count : fragments_behind block (length (drop (room - 7) left)) ≡ more = ap (fragments_behind block) later ∙ one_less room (length left) more e in
     (refl, size, (drop (room - 7) left, sym (take-append-drop (room - 7) left), some, fragments_cut more block false (drop (room - 7) left) (lit≤ tt) count))
 
-record_cut : (place : ℕ) (payload : List ℕ) → IsCut (room_at place) true payload (record_pieces place payload)
-record_cut place payload =
-    elim (ltb (room_at place) 7) as (λ b. ltb (room_at place) 7 ≡ b → IsCut (room_at place) true payload (if b then trailer (room_at place) ∷ all_fragments block payload else all_fragments (room_at place) payload)) [
-      | true ↦ λ t. (ltb-true (room_at place) 7 t, refl, fragments_cut (fragments_behind block (length payload)) block true payload (lit≤ tt) refl)
-      | false ↦ λ t. fragments_cut (fragments_behind (room_at place) (length payload)) (room_at place) true payload (ltb-false (room_at place) 7 t) refl
+record_cut : (offset : ℕ) (payload : List ℕ) → IsCut (room_at offset) true payload (record_pieces offset payload)
+record_cut offset payload =
+    elim (ltb (room_at offset) 7) as (λ b. ltb (room_at offset) 7 ≡ b → IsCut (room_at offset) true payload (if b then trailer (room_at offset) ∷ all_fragments block payload else all_fragments (room_at offset) payload)) [
+      | true ↦ λ t. (ltb-true (room_at offset) 7 t, refl, fragments_cut (fragments_behind block (length payload)) block true payload (lit≤ tt) refl)
+      | false ↦ λ t. fragments_cut (fragments_behind (room_at offset) (length payload)) (room_at offset) true payload (ltb-false (room_at offset) 7 t) refl
     ] refl
 
 -- ---- and there is no other
@@ -60,15 +60,15 @@ cut_once (fragment f false p ∷ xs) (fragment g false q ∷ ys) room first payl
     let later : xs ≡ ys = cut_once xs ys block false h.2.0 h.2.3 (subst (λ (z : List ℕ). IsCut block false z ys) (sym rests) k.2.3) in
     λ i. fragment ((h.0 ∙ sym k.0) i) false (same i) ∷ later i
 
-pub are_bytes : (place : ℕ) (payload : List ℕ) → AreRecordBytes place payload (record_bytes place payload)
+pub are_bytes : (offset : ℕ) (payload : List ℕ) → AreRecordBytes offset payload (record_bytes offset payload)
 unfolding record_bytes
-are_bytes place payload = record { pieces = record_pieces place payload; cut = record_cut place payload; spelled = refl }
+are_bytes offset payload = record { pieces = record_pieces offset payload; cut = record_cut offset payload; spelled = refl }
 
-pub one_spelling : (place : ℕ) (payload bytes : List ℕ) → AreRecordBytes place payload bytes → bytes ≡ record_bytes place payload
+pub one_spelling : (offset : ℕ) (payload bytes : List ℕ) → AreRecordBytes offset payload bytes → bytes ≡ record_bytes offset payload
 unfolding record_bytes
-one_spelling place payload bytes h =
-    h.spelled ∙ ap spelling (cut_once h.pieces (record_pieces place payload) (room_at place) true payload h.cut (record_cut place payload))
+one_spelling offset payload bytes h =
+    h.spelled ∙ ap spelling (cut_once h.pieces (record_pieces offset payload) (room_at offset) true payload h.cut (record_cut offset payload))
 
 pub record_bytes_law : RecordBytes
-record_bytes_law place payload bytes =
-    (one_spelling place payload bytes, λ e. subst (λ (b : List ℕ). AreRecordBytes place payload b) (sym e) (are_bytes place payload))
+record_bytes_law offset payload bytes =
+    (one_spelling offset payload bytes, λ e. subst (λ (b : List ℕ). AreRecordBytes offset payload b) (sym e) (are_bytes offset payload))

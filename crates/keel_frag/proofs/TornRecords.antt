@@ -4,24 +4,24 @@ use Rattle.std.proofs.lemmas.List.{take_at, take-append-drop, length-append, len
 use Rattle.keel_frag.specs.declared.record.LogRecord.{LogRecord}
 use Rattle.keel_frag.specs.Pieces.{Progress, start, after_all}
 use Rattle.keel_frag.specs.Reading.{AreLaidOn, IsWholeLog, AreRecords}
-use Rattle.keel_frag.specs.Writing.{first_place, record_bytes, records_bytes, records_at}
+use Rattle.keel_frag.specs.Writing.{first_offset, record_bytes, records_bytes, records_at}
 use Rattle.keel_frag.specs.Images.{IsImage, IsPlain, IsFrontOf, IsTornFrom, HoldsFirst, TornRecords}
 use Rattle.keel_frag.proofs.Laying.{laid_on_longer}
 use Rattle.keel_frag.proofs.Continuing.{making, going_on}
 use Rattle.keel_frag.proofs.Torn.{torn}
 
-take-records_at : (count place : ℕ) (payloads : List (List ℕ)) → take count (records_at place payloads) ≡ records_at place (take count payloads)
+take-records_at : (count offset : ℕ) (payloads : List (List ℕ)) → take count (records_at offset payloads) ≡ records_at offset (take count payloads)
 unfolding records_at
-take-records_at zero place payloads = refl
-take-records_at (suc count) place [] = refl
-take-records_at (suc count) place (payload ∷ payloads) =
-    let found : LogRecord = record { place = first_place place; payload = payload } in
-    ap (λ (l : List LogRecord). found ∷ l) (take-records_at count (place + length (record_bytes place payload)) payloads)
+take-records_at zero offset payloads = refl
+take-records_at (suc count) offset [] = refl
+take-records_at (suc count) offset (payload ∷ payloads) =
+    let found : LogRecord = record { offset = first_offset offset; payload = payload } in
+    ap (λ (l : List LogRecord). found ∷ l) (take-records_at count (offset + length (record_bytes offset payload)) payloads)
 
-length-records_at : (place : ℕ) (payloads : List (List ℕ)) → length (records_at place payloads) ≡ length payloads
+length-records_at : (offset : ℕ) (payloads : List (List ℕ)) → length (records_at offset payloads) ≡ length payloads
 unfolding records_at
-length-records_at place [] = refl
-length-records_at place (payload ∷ payloads) = ap suc (length-records_at (place + length (record_bytes place payload)) payloads)
+length-records_at offset [] = refl
+length-records_at offset (payload ∷ payloads) = ap suc (length-records_at (offset + length (record_bytes offset payload)) payloads)
 
 module _ (payloads : List (List ℕ)) where
   -- the first of the records, as a log of their own
@@ -36,7 +36,7 @@ module _ (payloads : List (List ℕ)) where
       → written ≤ length payloads → length (records_bytes 0 (take written payloads)) ≤ firm → written ≤ length found
   firm_written firm written found t within fits =
       let h = making (take written payloads) in
-      let place : (after_all start h.pieces).place ≡ length (records_bytes 0 (take written payloads)) = ap (λ (p : Progress). p.place) h.says in
+      let offset : (after_all start h.pieces).offset ≡ length (records_bytes 0 (take written payloads)) = ap (λ (p : Progress). p.offset) h.says in
       let done : (after_all start h.pieces).done ≡ records_at 0 (take written payloads) = ap (λ (p : Progress). p.done) h.says in
       let front : IsFrontOf (after_all start h.pieces).done found = t.firm_found h.pieces (first_laid written h) (omega arith) in
       omega (arith, ap length front.1, length-append (after_all start h.pieces).done front.0, ap length done, length-records_at 0 (take written payloads), length-take written payloads)
@@ -44,7 +44,7 @@ module _ (payloads : List (List ℕ)) where
   pub first_held : (firm : ℕ) (image : List ℕ) (found : List LogRecord) (end : ℕ)
       → IsImage firm (records_bytes 0 payloads) image → IsPlain (records_bytes 0 payloads) image → AreRecords image found end → HoldsFirst firm payloads found
   first_held firm image found end is_image plain records =
-      let read : Progress = record { place = length (records_bytes 0 payloads); done = records_at 0 payloads; begun = None } in
+      let read : Progress = record { offset = length (records_bytes 0 payloads); done = records_at 0 payloads; begun = None } in
       let t = torn firm (records_bytes 0 payloads) image read found end (making payloads) refl is_image plain records in
       let front : IsFrontOf found (records_at 0 payloads) = t.meant_all in
       record {

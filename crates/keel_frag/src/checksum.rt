@@ -2,7 +2,7 @@
 ghost use Rattle.std.specs.Prelude.{◌≡◌, ◌+◌, ◌*◌, ◌<◌, ◌∷◌, length, fold};
 ghost use Rattle.keel_frag.specs.Checksum as spec;
 
-use crate::table::TABLE;
+use crate::crc_table::TABLE;
 
 /// What eight shifts make of a byte, and eight more for each of `more` bytes behind it.
 fn shifted_byte(more: usize, byte: u32) -> u32

@@ -5,9 +5,9 @@
 //! its masked CRC32C.
 //!
 //! - `write_record` gives the bytes of a record: `record_bytes` of `specs/Writing`, a function of the
-//!   record's place and payload.
-//! - `read_log` gives the whole records of any bytes, up to the first bad fragment, with their places,
-//!   and the place where reading ended: the relation `AreRecords` of `specs/Reading`.
+//!   record's offset and payload.
+//! - `read_log` gives the whole records of any bytes, up to the first bad fragment, with their offsets,
+//!   and the offset where reading ended: the relation `AreRecords` of `specs/Reading`.
 //! - `is_plain` says whether an image that a crash left holds a fragment that was never written:
 //!   `IsPlain` of `specs/Images`.
 //! - `crc32c` and `mask` are those of `specs/Checksum`.
@@ -20,11 +20,11 @@
 #![tactic(auto)]
 
 mod checksum;
+mod crc_table;
 pub mod laws;
 mod plain;
 mod read;
 mod record;
-mod table;
 mod write;
 
 pub use checksum::{crc32c, mask};

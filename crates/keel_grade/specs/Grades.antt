@@ -52,9 +52,9 @@ grade_of Manifest Corrupt _ = Fatal
 grade_of Manifest Plain _ = Fatal
 
 -- how far up a grade stands, from no error on
-abbrev pub rank_of : Grade → ℕ
-rank_of NoError = 0
-rank_of Soft = 1
-rank_of Hard = 2
-rank_of Fatal = 3
-rank_of Unrecoverable = 4
+abbrev pub severity_of : Grade → ℕ
+severity_of NoError = 0
+severity_of Soft = 1
+severity_of Hard = 2
+severity_of Fatal = 3
+severity_of Unrecoverable = 4

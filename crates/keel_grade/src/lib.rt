@@ -2,13 +2,13 @@
 //!
 //! - `grade` is the table of grades (`specs/Grades`): one for each reason, each fault and each of the two ways to
 //!   take a doubtful failure. It is this store's own table, after those of RocksDB's error handler.
-//! - `rank` gives the place of a grade in their rising order, by which grades are compared.
+//! - `severity` gives the place of a grade in their rising order, by which grades are compared.
 //!
 //! It stands on `keel_base` alone.
 #![tactic(auto)]
 
 ghost use Rattle.std.specs.Prelude.{◌≡◌, Bool, if◌then◌else◌};
-ghost use Rattle.keel_grade.specs.Grades.{grade_of, rank_of};
+ghost use Rattle.keel_grade.specs.Grades.{grade_of, severity_of};
 
 use keel_base::{Fault, Grade, Reason};
 
@@ -26,8 +26,8 @@ pub fn grade(reason: Reason, fault: Fault, paranoid: bool) -> Grade
 }
 
 /// The place of a grade in their order: 0 for `NoError` to 4 for `Unrecoverable`.
-pub fn rank(grade: Grade) -> u8
-    ensures { result ≡ rank_of grade }
+pub fn severity(grade: Grade) -> u8
+    ensures { result ≡ severity_of grade }
 {
     match grade {
         Grade::NoError => 0,

@@ -1,4 +1,4 @@
-use crate::{grade, rank};
+use crate::{grade, severity};
 use keel_base::{Fault, Reason};
 use std::test::Fail;
 
@@ -23,8 +23,8 @@ fn every_failure_has_its_grade(rt: HostRuntime) -> Result<(), Fail> {
     ];
     for (fault, row) in TABLE {
         for (reason, (severe, mild)) in reasons.into_iter().zip(row) {
-            assert_eq!(rt; rank(grade(reason, fault, true)), severe);
-            assert_eq!(rt; rank(grade(reason, fault, false)), mild);
+            assert_eq!(rt; severity(grade(reason, fault, true)), severe);
+            assert_eq!(rt; severity(grade(reason, fault, false)), mild);
         }
     }
     Ok(())

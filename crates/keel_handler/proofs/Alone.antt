@@ -82,8 +82,8 @@ in_front paranoid failure failures None stands =
     elim (nat_lt 0 (severity paranoid failure))
     as (λ some. nat_lt 0 (severity paranoid failure) ≡ some → IsStanding paranoid (failure ∷ failures) (if some then Some failure else None)) [
       | true ↦ λ some.
-        front paranoid failure failures (ltb-true 0 (severity paranoid failure) some)
-            (All-weaker (Zero paranoid) (NoMore paranoid failure) (λ other zero. omega (arith, zero)) failures stands)
+          front paranoid failure failures (ltb-true 0 (severity paranoid failure) some)
+          (All-weaker (Zero paranoid) (NoMore paranoid failure) (λ other zero. omega (arith, zero)) failures stands)
       | false ↦ λ none. All-cons (Zero paranoid) failure failures (omega (arith, ltb-false 0 (severity paranoid failure) none)) stands
     ] refl
 in_front paranoid failure failures (Some standing) stands =
@@ -91,8 +91,8 @@ in_front paranoid failure failures (Some standing) stands =
     as (λ less. nat_lt (severity paranoid failure) (severity paranoid standing) ≡ less → IsStanding paranoid (failure ∷ failures) (if less then Some standing else Some failure)) [
       | true ↦ λ less. behind_front paranoid failure standing failures (ltb-true (severity paranoid failure) (severity paranoid standing) less) stands
       | false ↦ λ more. let above : severity paranoid standing ≤ severity paranoid failure = ltb-false (severity paranoid failure) (severity paranoid standing) more in
-        front paranoid failure failures (omega (arith, above, stands.some))
-            (All-weaker (NoMore paranoid standing) (NoMore paranoid failure) (λ other most. omega (arith, most, above)) failures (none_worse paranoid failures standing stands))
+          front paranoid failure failures (omega (arith, above, stands.some))
+          (All-weaker (NoMore paranoid standing) (NoMore paranoid failure) (λ other most. omega (arith, most, above)) failures (none_worse paranoid failures standing stands))
     ] refl
 
 pub found : (paranoid : Bool) (failures : List Failure) → IsStanding paranoid failures (standing_of paranoid failures)

@@ -3,11 +3,11 @@ use Rattle.std.specs.Prelude.{◌≡◌, ℕ, ◌<◌, ◌≤◌, ◌⊎◌, ◌
 use Rattle.keel_base.specs.declared.failure.Failure.{Failure}
 use Rattle.keel_base.specs.declared.failure.Fault.{Fault}
 use Rattle.keel_base.specs.declared.failure.Fault.TheVariants.{NoSpace, Retryable}
-use Rattle.keel_grade.specs.Grades.{grade_of, rank_of}
+use Rattle.keel_grade.specs.Grades.{grade_of, severity_of}
 
 -- how bad a failure is: 0 is no error, from 2 on writes are stopped, from 3 on no resume helps
 abbrev pub severity : Bool → Failure → ℕ
-severity paranoid failure = rank_of (grade_of failure.reason failure.fault paranoid)
+severity paranoid failure = severity_of (grade_of failure.reason failure.fault paranoid)
 
 -- it is an error, those before it are less severe, and those behind it are no more severe
 pub record IsFirstWorst (paranoid : Bool) (failures : List Failure) (failure : Failure) : Type 0 where

@@ -6,7 +6,7 @@ ghost use Rattle.keel_handler.specs.Failures.{severity as severity_of, may_pass 
 
 use crate::{Due, Noted};
 use keel_base::{Failure, Fault, Grade};
-use keel_grade::{grade, rank};
+use keel_grade::{grade, severity as severity_of};
 use std::marker::Model;
 
 /// The first failure of the greatest severity since the last clear, and the attempts to recover from it. Ticks are
@@ -177,7 +177,7 @@ impl Handler {
 fn severity(paranoid: bool, failure: Failure) -> u8
     ensures { result ≡ severity_of paranoid failure }
 {
-    rank(grade(failure.reason, failure.fault, paranoid))
+    severity_of(grade(failure.reason, failure.fault, paranoid))
 }
 
 fn standing_severity(paranoid: bool, standing: Option<Failure>) -> u8

@@ -8,7 +8,7 @@ use Rattle.keel_disk.specs.Counts.{disk_fault}
 use Rattle.keel_disk.specs.Listings.{IsListing}
 use Rattle.keel_disk.specs.Told.{TellsListing}
 use Rattle.keel_reading.specs.declared.refusal.OpenRefusal.{OpenRefusal}
-use Rattle.keel_reading.specs.declared.replay.Found.{Found}
+use Rattle.keel_reading.specs.declared.replay.FoundLogs.{FoundLogs}
 use Rattle.keel_disk.specs.Seen.{IsQuiet, Seen}
 use Rattle.keel_machine.specs.declared.answers.Admit.{Admit}
 use Rattle.keel_machine.specs.declared.answers.Got.{Got}
@@ -24,7 +24,7 @@ use Rattle.keel_machine.specs.WritingAfter.{WriteAnswers, write_after}
 
 -- a call of the machine with its answer
 pub data Event : Type 0 where
-  Opening : Result Found OpenRefusal → Event
+  Opening : Result FoundLogs OpenRefusal → Event
   Admitting : Batch → Admit → Event
   Writing : Option ℕ → WriteStep → Event
   TakingOutcome : ℕ → Outcome → Event

@@ -8,7 +8,7 @@ use Rattle.keel_machine.specs.declared.steps.WriteStep.{WriteStep}
 use Rattle.keel_machine.specs.declared.steps.WriteStep.TheVariants.{Idle, Moved, Done}
 use Rattle.keel_machine.specs.declared.answers.Admit.TheVariants.{QueueFull}
 use Rattle.keel_machine.specs.Admission.{queued, last_seq, outcome_of, refusal}
-use Rattle.keel_reading.specs.declared.replay.Found.{Found}
+use Rattle.keel_reading.specs.declared.replay.FoundLogs.{FoundLogs}
 use Rattle.keel_machine.specs.Opening.{opened}
 use Rattle.keel_machine.specs.States.{State, Group, Act, left_of, unopened}
 use Rattle.keel_machine.specs.Writing.{ready, write_rest, call_of}
@@ -41,7 +41,7 @@ behind_steps zero s = s
 behind_steps (suc n) s = behind_steps n (write_played s).1
 
 -- what an opening finds in an empty directory
-abbrev pub nothing_found : Found
+abbrev pub nothing_found : FoundLogs
 nothing_found = record { batches = []; last_seq = 0; next_file = 1 }
 
 -- a store that was opened there, as the first of a run

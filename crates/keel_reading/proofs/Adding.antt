@@ -62,7 +62,7 @@ all_added log bytes old new all end index h whole records = record {
 
 pub breaks : (log : ℕ) (bytes : List ℕ) (old now : List Numbered) (before after : Numbering) (all : List LogRecord) (end index : ℕ) (found : LogRecord) (left : ℕ)
     → AddedSoFar log old before now after all index → index < length all → found ≡ get_or all index found → AreRecords bytes all end → batch_of found.payload ≡ Err left
-    → BreaksAt bytes found.place
+    → BreaksAt bytes found.offset
 breaks log bytes old now before after all end index found left h lt is records bad = record {
   front = take index all;
   bad = found;
@@ -73,5 +73,5 @@ breaks log bytes old now before after all end index found left h lt is records b
   good = h.read;
   left = left;
   no_batch = bad;
-  place = refl;
+  offset = refl;
 }

@@ -10,7 +10,7 @@ use Rattle.keel_reading.specs.declared.directory.ListedLog.{ListedLog}
 use Rattle.keel_reading.specs.declared.numbering.Gap.{Gap}
 use Rattle.keel_reading.specs.declared.refusal.OpenRefusal.{OpenRefusal}
 use Rattle.keel_reading.specs.declared.refusal.OpenRefusal.TheVariants as refusal
-use Rattle.keel_reading.specs.declared.replay.Found.{Found}
+use Rattle.keel_reading.specs.declared.replay.FoundLogs.{FoundLogs}
 use Rattle.keel_reading.specs.declared.replay.Replay.{Replay}
 use Rattle.keel_reading.specs.Logs.{Numbered, LogsSay}
 use Rattle.keel_reading.specs.Reading.{AreLogsBelow, HasBadLog}
@@ -29,7 +29,7 @@ log_refused (Some told) listing least log bytes batches gap (refusal.BadLog numb
 log_refused (Some told) listing least log bytes batches gap refusal.OutOfMemory tells order logs next holds positive h refused = λ names. tt
 log_refused (Some told) listing least log bytes batches gap _ tells order logs next holds positive h refused = absurd refused
 
-pub finished : (told : Option Told) (listing : List Entry) (least : ℕ) (replay : Replay) (answer : Result Found OpenRefusal) → TellsListing told listing → AreLogs listing → NoLogFrom listing least
+pub finished : (told : Option Told) (listing : List Entry) (least : ℕ) (replay : Replay) (answer : Result FoundLogs OpenRefusal) → TellsListing told listing → AreLogs listing → NoLogFrom listing least
     → ReadSoFar told least (all_numbered replay.batches) replay.numbering.gap → Finishes replay least answer → ReadAnswers told answer
 finished None listing least replay answer tells logs none h end = tt
 finished (Some told) listing least replay (Ok found) tells logs none h end = λ names.

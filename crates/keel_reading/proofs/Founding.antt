@@ -6,17 +6,17 @@ use Rattle.keel_disk.specs.declared.state.Operation.{Operation}
 use Rattle.keel_disk.specs.Directory.{Named, operated_all}
 use Rattle.keel_disk.specs.Sound.{AreOwn, IsSound}
 use Rattle.keel_disk.specs.State.{State, directory_read}
-use Rattle.keel_reading.specs.declared.replay.Found.{Found}
+use Rattle.keel_reading.specs.declared.replay.FoundLogs.{FoundLogs}
 use Rattle.keel_reading.specs.Logs.{Numbered, ops_of, count_ops}
 use Rattle.keel_reading.specs.Reading.{Reads}
 use Rattle.keel_reading.specs.Replays.{all_numbered}
 use Rattle.keel_reading.specs.Answers.{AreNames, IsFoundIn, RunsOn}
 
 -- the point behind the batches that were found
-abbrev pub point_of : Found → Point
+abbrev pub point_of : FoundLogs → Point
 point_of found = fold_batches origin (ops_of (all_numbered found.batches))
 
-pub found_reads : (image : Named (List ℕ)) (found : Found) → IsFoundIn image found → RunsOn found → Reads image (point_of found)
+pub found_reads : (image : Named (List ℕ)) (found : FoundLogs) → IsFoundIn image found → RunsOn found → Reads image (point_of found)
 found_reads image found h runs = (
   found.next_file,
   record { logs = h.logs; batches = all_numbered found.batches; say = h.say; in_turn = runs.in_turn; point_is = refl },
@@ -27,7 +27,7 @@ seq-fold_batches point [] = omega arith
 seq-fold_batches point (batch ∷ batches) = omega (arith, seq-fold_batches (after_batch point batch.1) batches)
 
 -- its number is that of the last op
-pub last_found : (found : Found) → RunsOn found → (point_of found).seq ≡ found.last_seq
+pub last_found : (found : FoundLogs) → RunsOn found → (point_of found).seq ≡ found.last_seq
 last_found found runs = omega (arith, seq-fold_batches origin (all_numbered found.batches), runs.last_is)
 
 own_names : (bound : ℕ) (directory : Named ℕ) → AreOwn bound directory → AreNames directory

@@ -37,8 +37,8 @@ read_once (x ∷ xs) (y ∷ ys) e =
 -- bytes have the same records in each reading
 pub records_once : (bytes : List ℕ) (xs ys : List LogRecord) (m n : ℕ) → AreRecords bytes xs m → AreRecords bytes ys n → xs ≡ ys
 records_once bytes xs ys m n a b =
-    let p : Progress = record { place = m; done = xs; begun = a.0 } in
-    let q : Progress = record { place = n; done = ys; begun = b.0 } in
+    let p : Progress = record { offset = m; done = xs; begun = a.0 } in
+    let q : Progress = record { offset = n; done = ys; begun = b.0 } in
     ap (λ (r : Progress). r.done) (one_reading bytes p q a.1 b.1)
 
 said_once : (bytes : List ℕ) (xs ys : List Numbered) → Says bytes xs → Says bytes ys → xs ≡ ys

@@ -13,7 +13,7 @@ use Rattle.keel_disk.specs.Told.{Told, TellsListing}
 use Rattle.keel_reading.specs.declared.refusal.OpenRefusal.{OpenRefusal}
 use Rattle.keel_reading.specs.declared.refusal.OpenRefusal.TheVariants as refusal
 use Rattle.keel_reading.specs.declared.directory.ListedLog.{ListedLog}
-use Rattle.keel_reading.specs.declared.replay.Found.{Found}
+use Rattle.keel_reading.specs.declared.replay.FoundLogs.{FoundLogs}
 use Rattle.keel_reading.specs.Logs.{AreBatches, LogsSay, RunOn, count_ops}
 use Rattle.keel_reading.specs.Reading.{AreLogsBelow, HasBadLog, HasGap}
 use Rattle.keel_reading.specs.Replays.{all_numbered}
@@ -76,13 +76,13 @@ abbrev pub IsBehindALog : Named (List ℕ) → ℕ → Type 0
 IsBehindALog image next = (next ≡ 1) ⊎ ((number : ℕ) × (bytes : List ℕ) × (find (Log number) image ≡ Some bytes) × (next ≡ number + 1))
 
 -- the directory has logs alone, which say the batches found; the next file has the least number over theirs, from 1 on
-pub record IsFoundIn (image : Named (List ℕ)) (found : Found) : Type 0 where
+pub record IsFoundIn (image : Named (List ℕ)) (found : FoundLogs) : Type 0 where
   pub logs : AreLogsBelow found.next_file image
   pub say : LogsSay found.next_file image (all_numbered found.batches)
   pub next : IsBehindALog image found.next_file
 
 -- the batches run on from 1, and the numbers are within their limits
-pub record RunsOn (found : Found) : Type 0 where
+pub record RunsOn (found : FoundLogs) : Type 0 where
   pub each : AreBatches (all_numbered found.batches)
   pub in_turn : RunOn 0 (all_numbered found.batches)
   pub last_is : found.last_seq ≡ count_ops (all_numbered found.batches)
@@ -91,18 +91,18 @@ pub record RunsOn (found : Found) : Type 0 where
   pub next_most : found.next_file ≤ 2 ^ 56 + 1
 
 -- the cause of each answer in the directory
-abbrev pub AnswersFor : Named (List ℕ) → Result Found OpenRefusal → Type 0
+abbrev pub AnswersFor : Named (List ℕ) → Result FoundLogs OpenRefusal → Type 0
 AnswersFor image (Ok found) = IsFoundIn image found
 AnswersFor image (Err (refusal.BadLog log at)) = HasBadLog image log at
 AnswersFor image (Err (refusal.LogGap log expected found)) = HasGap image log expected found
 AnswersFor image _ = Unit {0}
 
 -- the same, where the device tells its directory
-abbrev pub ReadAnswers : Option Told → Result Found OpenRefusal → Type 0
+abbrev pub ReadAnswers : Option Told → Result FoundLogs OpenRefusal → Type 0
 ReadAnswers None answer = Unit {0}
 ReadAnswers (Some told) answer = AreNames (directory_read told.state) → AnswersFor (image_read told.state) answer
 
 -- a file that isn't a log is the one cause of a refusal for want of CURRENT
-abbrev pub NamesOther : Option Told → Result Found OpenRefusal → Type 0
+abbrev pub NamesOther : Option Told → Result FoundLogs OpenRefusal → Type 0
 NamesOther told (Err (refusal.NoCurrent file)) = LacksCurrent told file
 NamesOther told _ = Unit {0}

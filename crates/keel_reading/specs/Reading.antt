@@ -43,7 +43,7 @@ pub record BreaksAt (bytes : List ℕ) (at : ℕ) : Type 0 where
   pub good : batches_in front ≡ all_read batches
   pub left : ℕ
   pub no_batch : batch_of bad.payload ≡ Err left
-  pub place : at ≡ bad.place
+  pub offset : at ≡ bad.offset
 
 -- the directory has logs alone, and this is the first that has a whole record that is no batch
 pub record HasBadLog (image : Named (List ℕ)) (log at : ℕ) : Type 0 where

@@ -7,7 +7,7 @@ use Rattle.keel_reading.specs.declared.refusal.OpenRefusal.{OpenRefusal}
 use Rattle.keel_reading.specs.declared.refusal.OpenRefusal.TheVariants as refusal
 use Rattle.keel_reading.specs.declared.numbering.Gap.{Gap}
 use Rattle.keel_reading.specs.declared.numbering.Numbering.{Numbering}
-use Rattle.keel_reading.specs.declared.replay.Found.{Found}
+use Rattle.keel_reading.specs.declared.replay.FoundLogs.{FoundLogs}
 use Rattle.keel_reading.specs.declared.replay.Replay.{Replay}
 use Rattle.keel_reading.specs.Logs.{Numbered, AreBatches, Says, log_bytes, LogsSay, RunOn, count_ops}
 use Rattle.keel_reading.specs.Reading.{BreaksAt}
@@ -55,7 +55,7 @@ RefusesLog log bytes refusal.OutOfMemory = Unit {0}
 RefusesLog log bytes _ = ⊥
 
 -- what all logs say, with the number of the next file
-pub record IsAllOf (replay : Replay) (next : ℕ) (found : Found) : Type 0 where
+pub record IsAllOf (replay : Replay) (next : ℕ) (found : FoundLogs) : Type 0 where
   pub batches_are : found.batches ≡ replay.batches
   pub last_is : found.last_seq ≡ replay.numbering.last
   pub last_most : found.last_seq ≤ 2 ^ 56
@@ -63,7 +63,7 @@ pub record IsAllOf (replay : Replay) (next : ℕ) (found : Found) : Type 0 where
   pub no_gap : replay.numbering.gap ≡ None
 
 -- the answer behind the last log
-abbrev pub Finishes : Replay → ℕ → Result Found OpenRefusal → Type 0
+abbrev pub Finishes : Replay → ℕ → Result FoundLogs OpenRefusal → Type 0
 Finishes replay next (Ok found) = IsAllOf replay next found
 Finishes replay next (Err (refusal.LogGap log expected found)) = replay.numbering.gap ≡ Some (record { log = log; expected = expected; found = found })
 Finishes replay next _ = ⊥

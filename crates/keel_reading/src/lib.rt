@@ -22,7 +22,7 @@ mod replay;
 
 pub use opening::read_logs;
 pub use refusal::OpenRefusal;
-pub use replay::Found;
+pub use replay::FoundLogs;
 
 #[cfg(test)]
 mod tests;

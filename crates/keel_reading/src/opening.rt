@@ -7,7 +7,7 @@ ghost use Rattle.keel_reading.specs.Answers.{fault_in, AreLogs, NamesOther, Read
 
 use crate::directory::{first_other, next_log};
 use crate::refusal::OpenRefusal;
-use crate::replay::{Found, Replay};
+use crate::replay::{FoundLogs, Replay};
 use keel_base::{FileName, Listing};
 use keel_disk::{Disk, read_file};
 use std::alloc::Global;
@@ -17,7 +17,7 @@ fn read_listed<D: Disk>(
     alloc: Global,
     disk: &mut D,
     listing: &Listing,
-) -> Result<Found, OpenRefusal>
+) -> Result<FoundLogs, OpenRefusal>
     requires tells { TellsListing (D.seen disk.old).told listing.now }
     requires order { IsListing listing.now }
     requires logs { AreLogs listing.now }
@@ -40,7 +40,7 @@ fn read_listed<D: Disk>(
 /// changing call.
 ///
 /// A log that vanishes between the listing and its read counts as empty.
-pub fn read_logs<D: Disk>(alloc: Global, disk: &mut D) -> Result<Found, OpenRefusal>
+pub fn read_logs<D: Disk>(alloc: Global, disk: &mut D) -> Result<FoundLogs, OpenRefusal>
     // The cause of each answer, where the device tells its directory.
     ensures answers { ReadAnswers (D.seen disk.old).told result }
     // NoCurrent names the first file of the listing that isn't a log.

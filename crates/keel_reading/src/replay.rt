@@ -12,7 +12,7 @@ use std::alloc::Global;
 
 /// What the logs of a directory say.
 #[derive(Debug, Drop)]
-pub struct Found {
+pub struct FoundLogs {
     /// Their batches, in order of the logs' numbers.
     pub batches: Sequence<Numbered>,
     /// The number of the last op, or 0.
@@ -59,7 +59,7 @@ impl Replay {
                     self.batches.push(batch)?;
                 }
                 Err(BatchError::BadBatch { at: _ }) => {
-                    let at = found.place;
+                    let at = found.offset;
                     return Err(OpenRefusal::BadLog { log, at });
                 }
                 Err(BatchError::OutOfMemory) => return Err(OpenRefusal::OutOfMemory),
@@ -69,12 +69,12 @@ impl Replay {
     }
 
     /// What was read, unless there is a gap.
-    pub(crate) fn finish(self, next_file: u64) -> Result<Found, OpenRefusal>
+    pub(crate) fn finish(self, next_file: u64) -> Result<FoundLogs, OpenRefusal>
         ensures { Finishes self next_file result }
     {
         let Replay { batches, numbering } = self;
         match numbering.gap {
-            None => Ok(Found {
+            None => Ok(FoundLogs {
                 batches,
                 last_seq: numbering.last,
                 next_file,

@@ -1,4 +1,4 @@
-use crate::{Found, OpenRefusal, read_logs};
+use crate::{FoundLogs, OpenRefusal, read_logs};
 use keel_base::FileName;
 use shelf::{Scene, Shelf};
 use std::test::Fail;
@@ -36,7 +36,7 @@ fn found(batches: usize, last_seq: u64, next_file: u64) -> Result<Summary, OpenR
     })
 }
 
-fn summed_up(answer: Result<Found, OpenRefusal>) -> Result<Summary, OpenRefusal> {
+fn summed_up(answer: Result<FoundLogs, OpenRefusal>) -> Result<Summary, OpenRefusal> {
     let read = answer?;
     found(read.batches.len(), read.last_seq, read.next_file)
 }

@@ -27,7 +27,7 @@ use Rattle.keel_machine.specs.Turns.{Event, Opening, Admitting, Writing, TakingO
 use Rattle.keel_machine.specs.Writing.{ready, write_rest, change_of}
 use Rattle.keel_machine.specs.WritingAfter.{WriteAnswers, MadeCall, call_done, call_failed, failure_of, queue_turned, write_after}
 use Rattle.keel_machine.proofs.FirstTests.{none_when, none_of}
-use Rattle.keel_reading.specs.declared.replay.Found.{Found}
+use Rattle.keel_reading.specs.declared.replay.FoundLogs.{FoundLogs}
 use Rattle.keel_reading.specs.Answers.{ReadAnswers, RunsOn, IsFoundIn}
 use Rattle.keel_reading.specs.Reading.{ReadsBelow}
 use Rattle.keel_reading.specs.Replays.{all_numbered}
@@ -241,12 +241,12 @@ admit_keeps s batch admit.OutOfMemory device is a same h = same_keeps s device s
 -- ---- an opening
 
 -- what an opening found is a reading of the directory
-found_reads_on : (told : Told) (found : Found) → IsAtRest told.state → ReadAnswers (Some told) (Ok found) → RunsOn found → ReadsBelow found.next_file (image_read told.state) (point_found found)
+found_reads_on : (told : Told) (found : FoundLogs) → IsAtRest told.state → ReadAnswers (Some told) (Ok found) → RunsOn found → ReadsBelow found.next_file (image_read told.state) (point_found found)
 found_reads_on told found rest cause runs =
     let answer : IsFoundIn (image_read told.state) found = cause (sound_names told.state rest.sound) in
     record { logs = answer.logs; batches = all_numbered found.batches; say = answer.say; in_turn = runs.in_turn; point_is = refl }
 
-opened_kept : (told : Told) (found : Found) (story : Story) (s : State) (device : Seen) → IsAtRest told.state → IsAfterCrash story → Stands told.state story
+opened_kept : (told : Told) (found : FoundLogs) (story : Story) (s : State) (device : Seen) → IsAtRest told.state → IsAfterCrash story → Stands told.state story
     → ReadAnswers (Some told) (Ok found) → RunsOn found → story_opened (continues s.mode s.footing) found s.story ≡ story
     → IsKept told.state (with_device device (opened found s))
 opened_kept told found story s device rest after stands cause runs is =
@@ -269,7 +269,7 @@ opened_kept told found story s device rest after stands cause runs is =
     }
 
 -- where no store is open
-shut_opened : (f : Footing) (leaving : Leaving) (told : Told) (s : State) (found : Found) (device : Seen) → f ≡ s.footing → leaving ≡ s.mode.left → f ≡ Known
+shut_opened : (f : Footing) (leaving : Leaving) (told : Told) (s : State) (found : FoundLogs) (device : Seen) → f ≡ s.footing → leaving ≡ s.mode.left → f ≡ Known
     → ReadAnswers (Some told) (Ok found) → RunsOn found → KeptBy false (is_left leaving) told.state s
     → IsKept told.state (with_device device (opened found s))
 shut_opened Unknown leaving told s found device footing is known cause runs h = cc
@@ -290,7 +290,7 @@ shut_kept : (opens left : Bool) (told : Told) (s : State) → opens ≡ false �
 shut_kept true left told s shut h = cc
 shut_kept false left told s shut h = h
 
-opened_by : (f : Footing) (told : Option Told) (s : State) (found : Found) (device : Seen) → f ≡ s.footing → is_open s.mode.phase ≡ false
+opened_by : (f : Footing) (told : Option Told) (s : State) (found : FoundLogs) (device : Seen) → f ≡ s.footing → is_open s.mode.phase ≡ false
     → ReadAnswers told (Ok found) → RunsOn found → IsCoveredBy f s.mode told s → OpenBy f told (with_device device (opened found s))
 opened_by Unknown told s found device footing shut cause runs h = tt
 opened_by Known None s found device footing shut cause runs h = h
@@ -302,7 +302,7 @@ as_covered Unknown leaving told next h = tt
 as_covered Known leaving None next h = h
 as_covered Known leaving (Some told) next h = h
 
-open_keeps : (s : State) (found : Found) (device : Seen) → is_open s.mode.phase ≡ false → OpenAnswers s (Ok found) device → IsCovered s → IsCovered (with_device device (opened found s))
+open_keeps : (s : State) (found : FoundLogs) (device : Seen) → is_open s.mode.phase ≡ false → OpenAnswers s (Ok found) device → IsCovered s → IsCovered (with_device device (opened found s))
 open_keeps s found device shut a h =
     as_covered s.footing s.mode.left device.told (with_device device (opened found s))
     (subst (λ (t : Option Told). OpenBy s.footing t (with_device device (opened found s))) (sym a.quiet.same)

@@ -2,7 +2,7 @@
 use Rattle.std.proofs.Common.{◌≡◌, ℕ, zero, suc, ◌+◌, ◌-◌, List, [], ◌∷◌, ◌++◌, length, map, take, Result, Ok, Err, refl, ap, subst, ◌∙◌, arith}
 use Rattle.keel_base.specs.Points.{Point, after_batch, fold_batches}
 use Rattle.keel_base.specs.declared.op.Op.{Op}
-use Rattle.keel_batch.specs.declared.batch.Numbered.{Numbered as Found}
+use Rattle.keel_batch.specs.declared.batch.Numbered.{Numbered as FoundLogs}
 use Rattle.keel_batch.specs.declared.batch.BatchError.TheVariants as errors
 use Rattle.keel_batch.specs.Spelling.{spelling, IsBatch}
 use Rattle.keel_batch.specs.Reading.{batch_of}
@@ -77,7 +77,7 @@ read_again seq ops h = by (batch_of (spelling seq ops)) refl
   where
     by : (read : Result Numbered ℕ) → batch_of (spelling seq ops) ≡ read → batch_of (spelling seq ops) ≡ Ok (seq, ops)
     by (Ok x) e =
-        let found : Found = record { seq = x.0; ops = x.1 } in
+        let found : FoundLogs = record { seq = x.0; ops = x.1 } in
         let is = decoded_only (spelling seq ops) (Ok found) e seq ops h refl in
         e ∙ (λ i. Ok (is.0 i, is.1 i))
     by (Err left) e = absurd (decoded_only (spelling seq ops) (Err (errors.BadBatch (length (spelling seq ops) - left))) (left, e, refl) seq ops h refl)

@@ -73,21 +73,21 @@ impl Medium {
         self.tree.fail(alloc, change, keep)
     }
 
-    /// The bytes of a file from a place on, at most so many.
+    /// The bytes of a file from an offset on, at most so many.
     pub fn read(
         &self,
         alloc: Global,
         name: FileName,
-        place: u64,
+        offset: u64,
         length: u32,
     ) -> Result<Option<Bytes>, OutOfMemory>
-        ensures { IfOk result (λ part. part ≡ option_map (λ all. take length (drop place all)) (contents_of name self.now)) }
+        ensures { IfOk result (λ part. part ≡ option_map (λ all. take length (drop offset all)) (contents_of name self.now)) }
     {
         let Some(number) = self.tree.file_of(name) else {
             return Ok(None);
         };
         let all = self.tree.read(number);
-        let start = (place as usize).min(all.len());
+        let start = (offset as usize).min(all.len());
         let rest = &all[start..];
         let count = (length as usize).min(rest.len());
         Ok(Some(Bytes::from_slice(alloc, &rest[..count])?))

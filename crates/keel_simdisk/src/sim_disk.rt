@@ -214,11 +214,11 @@ impl Disk for SimDisk {
         &mut self,
         alloc: Global,
         name: FileName,
-        place: u64,
+        offset: u64,
         length: u32,
     ) -> Result<Bytes, ReadError>
         ensures exact { ReadsFile self.old result self.new }
-        ensures bytes { TellsRead name place length (Some (told_of self.old)) result }
+        ensures bytes { TellsRead name offset length (Some (told_of self.old)) result }
         ensures bound { IfOk result (AreAtMost length) }
         ensures absent { TellsAbsent name (Some (told_of self.old)) result }
         ensures quiet { IsQuiet (seen_of self.old) (read_fault result) (seen_of self.new) }
@@ -229,7 +229,7 @@ impl Disk for SimDisk {
             self.note_fault(planned.fault);
             return Err(ReadError::Fault(planned.fault));
         }
-        let part = self.state.read(alloc, name, place, length)?;
+        let part = self.state.read(alloc, name, offset, length)?;
         self.rules.count(met);
         match part {
             None => Err(ReadError::Absent),

@@ -33,18 +33,18 @@ flat-one {A} {B} f xs x = flat_map-append f xs (x ∷ []) ∙ ap (λ (ys : List 
 length-more : {A : Type 0} (xs : List A) (x : A) → length (xs ++ x ∷ []) ≡ length xs + 1
 length-more xs x = omega (arith, length-append xs (x ∷ []))
 
-entry_at_zero : (block : List Row) (place : ℕ) → entry_of (place + 0) block ≡ entry_of place block
-entry_at_zero block place =
-    let e : place + 0 ≡ place = omega arith in ap (λ (n : ℕ). entry_of n block) e
+entry_at_zero : (block : List Row) (offset : ℕ) → entry_of (offset + 0) block ≡ entry_of offset block
+entry_at_zero block offset =
+    let e : offset + 0 ≡ offset = omega arith in ap (λ (n : ℕ). entry_of n block) e
 
-entries-more : (place : ℕ) (blocks : List (List Row)) (block : List Row)
-    → entries_from place (blocks ++ block ∷ []) ≡ entries_from place blocks ++ entry_of (place + length (blocks_bytes blocks)) block ∷ []
-entries-more place [] block = ap (λ (e : BlockEntry). e ∷ []) (sym (entry_at_zero block place))
-entries-more place (first ∷ blocks) block =
+entries-more : (offset : ℕ) (blocks : List (List Row)) (block : List Row)
+    → entries_from offset (blocks ++ block ∷ []) ≡ entries_from offset blocks ++ entry_of (offset + length (blocks_bytes blocks)) block ∷ []
+entries-more offset [] block = ap (λ (e : BlockEntry). e ∷ []) (sym (entry_at_zero block offset))
+entries-more offset (first ∷ blocks) block =
     let size : ℕ = length (rows_bytes first) + 4 in
-    let there : place + size + length (blocks_bytes blocks) ≡ place + length (block_bytes first ++ blocks_bytes blocks) =
+    let there : offset + size + length (blocks_bytes blocks) ≡ offset + length (block_bytes first ++ blocks_bytes blocks) =
     omega (arith, length-append (block_bytes first) (blocks_bytes blocks), length-checked (rows_bytes first)) in
-    ap (λ (es : List BlockEntry). entry_of place first ∷ es) (entries-more (place + size) blocks block ∙ ap (λ (n : ℕ). entries_from (place + size) blocks ++ entry_of n block ∷ []) there)
+    ap (λ (es : List BlockEntry). entry_of offset first ∷ es) (entries-more (offset + size) blocks block ∙ ap (λ (n : ℕ). entries_from (offset + size) blocks ++ entry_of n block ∷ []) there)
 
 index-more : (blocks : List (List Row)) (block : List Row) → index_bytes (blocks ++ block ∷ []) ≡ index_bytes blocks ++ entry_bytes (entry_of (length (blocks_bytes blocks)) block)
 index-more blocks block =
@@ -73,7 +73,7 @@ keeps first last rows given b c row spelled key number h is over spells keyed nu
       open_is = bytes;
       key_is = keyed ∙ sym (last_key-more [] rows row);
       index_is = h.index_is;
-      place_is = h.place_is ∙ ap length (sym (append-nil given));
+      offset_is = h.offset_is ∙ ap length (sym (append-nil given));
       blocks_is = h.blocks_is;
       rows_is = omega (arith, numbered, h.rows_is, length-more rows row);
     })
@@ -83,8 +83,8 @@ keeps first last rows given b c row spelled key number h is over spells keyed nu
 closed_block : (rest : List Row) (row : Row) → length (rows_bytes rest) < 4096 → 4096 ≤ length (rows_bytes (rest ++ row ∷ [])) → IsClosed (rest ++ row ∷ [])
 closed_block rest row short full = record { is_block = record { front = rest; end = row; parts = refl; short = short }; full = full }
 
-same_entry : (place : ℕ) (block : List Row) (bytes key : List ℕ) → bytes ≡ rows_bytes block → key ≡ last_key [] block → (let e : BlockEntry = record { place = place; size = length bytes; last = key } in e) ≡ entry_of place block
-same_entry place block bytes key p q = cc
+same_entry : (offset : ℕ) (block : List Row) (bytes key : List ℕ) → bytes ≡ rows_bytes block → key ≡ last_key [] block → (let e : BlockEntry = record { offset = offset; size = length bytes; last = key } in e) ≡ entry_of offset block
+same_entry offset block bytes key p q = cc
 
 pub closes : (first last : ℕ) (rows : List Row) (given : List ℕ) (b c : Builder) (row : Row) (spelled piece key : List ℕ) (number : ℕ) → IsBuilding first last rows given b → IsRow row → key_lt b.last_key row.key ≡ true
     → spelled ≡ row_bytes row → key ≡ row.key → number ≡ b.rows + 1 → 4096 ≤ length b.open_rows + length spelled → piece ≡ checked (b.open_rows ++ spelled) → c ≡ closed_by (b.open_rows ++ spelled) key number b
@@ -95,8 +95,8 @@ closes first last rows given b c row spelled piece key number h is over spells k
     let bytes : b.open_rows ++ spelled ≡ rows_bytes block = ap (λ (s : List ℕ). b.open_rows ++ s) spells ∙ ap (λ (s : List ℕ). s ++ row_bytes row) h.open_is ∙ sym (flat-one row_bytes h.rest row) in
     let large : 4096 ≤ length (rows_bytes block) = omega (arith, ap length bytes, length-append b.open_rows spelled, full) in
     let all : given ++ piece ≡ blocks_bytes blocks = ap (λ (p : List ℕ). given ++ p) (pieced ∙ ap checked bytes) ∙ ap (λ (g : List ℕ). g ++ block_bytes block) h.given_is ∙ sym (flat-one block_bytes h.closed block) in
-    let entry : (let made : BlockEntry = record { place = b.place; size = length (b.open_rows ++ spelled); last = key } in made) ≡ entry_of (length (blocks_bytes h.closed)) block =
-    same_entry b.place block (b.open_rows ++ spelled) key bytes (keyed ∙ sym (last_key-more [] h.rest row)) ∙ ap (λ (n : ℕ). entry_of n block) (h.place_is ∙ ap length h.given_is) in
+    let entry : (let made : BlockEntry = record { offset = b.offset; size = length (b.open_rows ++ spelled); last = key } in made) ≡ entry_of (length (blocks_bytes h.closed)) block =
+    same_entry b.offset block (b.open_rows ++ spelled) key bytes (keyed ∙ sym (last_key-more [] h.rest row)) ∙ ap (λ (n : ℕ). entry_of n block) (h.offset_is ∙ ap length h.given_is) in
     let P : Builder → Type 0 = IsBuilding first last (rows ++ row ∷ []) (given ++ piece) in
     subst P (sym e) (record {
       each = all-more IsRow rows row h.each is;
@@ -111,17 +111,17 @@ closes first last rows given b c row spelled piece key number h is over spells k
       last_is = h.last_is;
       open_is = refl;
       key_is = keyed ∙ sym (last_key-more [] rows row);
-      index_is = ap (λ (i : List ℕ). i ++ entry_bytes (record { place = b.place; size = length (b.open_rows ++ spelled); last = key })) h.index_is ∙ ap (λ (en : BlockEntry). index_bytes h.closed ++ entry_bytes en) entry ∙ sym (index-more h.closed block);
-      place_is = omega (arith, h.place_is, length-append given piece, ap length pieced, length-checked (b.open_rows ++ spelled));
+      index_is = ap (λ (i : List ℕ). i ++ entry_bytes (record { offset = b.offset; size = length (b.open_rows ++ spelled); last = key })) h.index_is ∙ ap (λ (en : BlockEntry). index_bytes h.closed ++ entry_bytes en) entry ∙ sym (index-more h.closed block);
+      offset_is = omega (arith, h.offset_is, length-append given piece, ap length pieced, length-checked (b.open_rows ++ spelled));
       blocks_is = omega (arith, h.blocks_is, length-more h.closed block);
       rows_is = omega (arith, numbered, h.rows_is, length-more rows row);
     })
 
 -- what a closed block adds to the bytes and to the blocks
-pub closed_bytes : (bytes key piece : List ℕ) (number : ℕ) (b c : Builder) → piece ≡ checked bytes → c ≡ closed_by bytes key number b → c.place ≡ b.place + length piece
+pub closed_bytes : (bytes key piece : List ℕ) (number : ℕ) (b c : Builder) → piece ≡ checked bytes → c ≡ closed_by bytes key number b → c.offset ≡ b.offset + length piece
 closed_bytes bytes key piece number b c pieced e =
-    let place : c.place ≡ b.place + (length bytes + 4) = ap (λ (x : Builder). x.place) e in
-    omega (arith, place, ap length pieced, length-checked bytes)
+    let offset : c.offset ≡ b.offset + (length bytes + 4) = ap (λ (x : Builder). x.offset) e in
+    omega (arith, offset, ap length pieced, length-checked bytes)
 
 pub closed_blocks : (bytes key : List ℕ) (number : ℕ) (b c : Builder) → c ≡ closed_by bytes key number b → c.blocks ≡ b.blocks + 1
 closed_blocks bytes key number b c e = ap (λ (x : Builder). x.blocks) e
@@ -174,12 +174,12 @@ footer_same f g a b c d e h = λ i. record { index = a i; size = b i; blocks = c
 
 -- no rows are left
 pub ends_closed : (first last : ℕ) (rows : List Row) (given : List ℕ) (b : Builder) (end : List ℕ) → IsBuilding first last rows given b → length b.open_rows ≡ 0
-    → end ≡ checked b.index ++ footer_bytes (footer_behind b.index b.place b.blocks b) → FooterFits (footer_behind b.index b.place b.blocks b) → IsTableIn (b.blocks + 0) first last rows (given ++ ([] ++ end))
+    → end ≡ checked b.index ++ footer_bytes (footer_behind b.index b.offset b.blocks b) → FooterFits (footer_behind b.index b.offset b.blocks b) → IsTableIn (b.blocks + 0) first last rows (given ++ ([] ++ end))
 ends_closed first last rows given b end h none ends fits =
     let nothing : h.rest ≡ [] = none_left h.rest (nil_from_length (rows_bytes h.rest) (ap length (sym h.open_is) ∙ none)) in
     let joined : rows ≡ rows_of h.closed = h.joined ∙ ap (λ (rs : List Row). rows_of h.closed ++ rs) nothing ∙ append-nil (rows_of h.closed) in
-    let footer : footer_behind b.index b.place b.blocks b ≡ footer_of first last h.closed =
-    footer_same (footer_behind b.index b.place b.blocks b) (footer_of first last h.closed) (h.place_is ∙ ap length h.given_is) (ap length h.index_is) h.blocks_is (h.rows_is ∙ ap length joined) h.first_is h.last_is in
+    let footer : footer_behind b.index b.offset b.blocks b ≡ footer_of first last h.closed =
+    footer_same (footer_behind b.index b.offset b.blocks b) (footer_of first last h.closed) (h.offset_is ∙ ap length h.given_is) (ap length h.index_is) h.blocks_is (h.rows_is ∙ ap length joined) h.first_is h.last_is in
     let table : IsTableOf first last rows (given ++ ([] ++ end)) = record {
       each = h.each;
       rise = h.rise;
@@ -187,28 +187,28 @@ ends_closed first last rows given b end h none ends fits =
       joined = joined;
       cut = all_closed h.closed h.cut;
       fits = subst FooterFits footer fits;
-      spelled = ap (λ (e : List ℕ). given ++ e) (ends ∙ ap (λ (i : List ℕ). checked i ++ footer_bytes (footer_behind b.index b.place b.blocks b)) h.index_is ∙ ap (λ (f : Footer). checked (index_bytes h.closed) ++ footer_bytes f) footer)
+      spelled = ap (λ (e : List ℕ). given ++ e) (ends ∙ ap (λ (i : List ℕ). checked i ++ footer_bytes (footer_behind b.index b.offset b.blocks b)) h.index_is ∙ ap (λ (f : Footer). checked (index_bytes h.closed) ++ footer_bytes f) footer)
           ∙ ap (λ (g : List ℕ). g ++ (checked (index_bytes h.closed) ++ footer_bytes (footer_of first last h.closed))) h.given_is;
     } in (table, omega (arith, h.blocks_is))
 
 -- a last block is left
-pub ends_open : (first last : ℕ) (rows : List Row) (given : List ℕ) (b : Builder) (block entry index end : List ℕ) (place blocks : ℕ) → IsBuilding first last rows given b → 0 < length b.open_rows
-    → block ≡ checked b.open_rows → entry ≡ entry_bytes (record { place = b.place; size = length b.open_rows; last = b.last_key }) → index ≡ b.index ++ entry
-    → place ≡ b.place + (length b.open_rows + 4) → blocks ≡ b.blocks + 1 → end ≡ checked index ++ footer_bytes (footer_behind index place blocks b) → FooterFits (footer_behind index place blocks b)
+pub ends_open : (first last : ℕ) (rows : List Row) (given : List ℕ) (b : Builder) (block entry index end : List ℕ) (offset blocks : ℕ) → IsBuilding first last rows given b → 0 < length b.open_rows
+    → block ≡ checked b.open_rows → entry ≡ entry_bytes (record { offset = b.offset; size = length b.open_rows; last = b.last_key }) → index ≡ b.index ++ entry
+    → offset ≡ b.offset + (length b.open_rows + 4) → blocks ≡ b.blocks + 1 → end ≡ checked index ++ footer_bytes (footer_behind index offset blocks b) → FooterFits (footer_behind index offset blocks b)
     → IsTableIn (b.blocks + 1) first last rows (given ++ (block ++ end))
-ends_open first last rows given b block entry index end place blocks h some blocked entered indexed placed counted ends fits =
+ends_open first last rows given b block entry index end offset blocks h some blocked entered indexed placed counted ends fits =
     let last_one : IsBlock h.rest = last_block h.rest (length b.open_rows) (ap length (sym h.open_is)) some (omega (arith, h.short, ap length h.open_is)) in
     let all : List (List Row) = h.closed ++ h.rest ∷ [] in
     let joined : rows ≡ rows_of all = h.joined ∙ sym (flat-one (λ (bl : List Row). bl) h.closed h.rest) in
     let key : b.last_key ≡ last_key [] h.rest = h.key_is ∙ ap (last_key []) (h.joined ∙ ap (λ (rs : List Row). rows_of h.closed ++ rs) last_one.parts ∙ sym (append_assoc (rows_of h.closed) last_one.front (last_one.end ∷ []))) ∙ last_key-more [] (rows_of h.closed ++ last_one.front) last_one.end ∙ sym (last_key-more [] last_one.front last_one.end) ∙ ap (last_key []) (sym last_one.parts) in
-    let entry_is : (let made : BlockEntry = record { place = b.place; size = length b.open_rows; last = b.last_key } in made) ≡ entry_of (length (blocks_bytes h.closed)) h.rest =
-    same_entry b.place h.rest b.open_rows b.last_key h.open_is key ∙ ap (λ (n : ℕ). entry_of n h.rest) (h.place_is ∙ ap length h.given_is) in
+    let entry_is : (let made : BlockEntry = record { offset = b.offset; size = length b.open_rows; last = b.last_key } in made) ≡ entry_of (length (blocks_bytes h.closed)) h.rest =
+    same_entry b.offset h.rest b.open_rows b.last_key h.open_is key ∙ ap (λ (n : ℕ). entry_of n h.rest) (h.offset_is ∙ ap length h.given_is) in
     let index_is : index ≡ index_bytes all = indexed ∙ ap (λ (e : List ℕ). b.index ++ e) (entered ∙ ap entry_bytes entry_is) ∙ ap (λ (i : List ℕ). i ++ entry_bytes (entry_of (length (blocks_bytes h.closed)) h.rest)) h.index_is ∙ sym (index-more h.closed h.rest) in
     let block_is : block ≡ block_bytes h.rest = blocked ∙ ap checked h.open_is in
     let given_is : given ++ block ≡ blocks_bytes all = ap (λ (p : List ℕ). given ++ p) block_is ∙ ap (λ (g : List ℕ). g ++ block_bytes h.rest) h.given_is ∙ sym (flat-one block_bytes h.closed h.rest) in
-    let place_is : place ≡ length (blocks_bytes all) = omega (arith, placed, h.place_is, ap length given_is, length-append given block, ap length blocked, length-checked b.open_rows) in
-    let footer : footer_behind index place blocks b ≡ footer_of first last all =
-    footer_same (footer_behind index place blocks b) (footer_of first last all) place_is (ap length index_is) (omega (arith, counted, h.blocks_is, length-more h.closed h.rest)) (h.rows_is ∙ ap length joined) h.first_is h.last_is in
+    let offset_is : offset ≡ length (blocks_bytes all) = omega (arith, placed, h.offset_is, ap length given_is, length-append given block, ap length blocked, length-checked b.open_rows) in
+    let footer : footer_behind index offset blocks b ≡ footer_of first last all =
+    footer_same (footer_behind index offset blocks b) (footer_of first last all) offset_is (ap length index_is) (omega (arith, counted, h.blocks_is, length-more h.closed h.rest)) (h.rows_is ∙ ap length joined) h.first_is h.last_is in
     let many : length all ≡ b.blocks + 1 = omega (arith, h.blocks_is, length-more h.closed h.rest) in
     let table : IsTableOf first last rows (given ++ (block ++ end)) = record {
       each = h.each;
@@ -218,5 +218,5 @@ ends_open first last rows given b block entry index end place blocks h some bloc
       cut = closed_but_last h.closed h.rest h.cut last_one;
       fits = subst FooterFits footer fits;
       spelled = sym (append_assoc given block end) ∙ ap (λ (g : List ℕ). g ++ end) given_is
-          ∙ ap (λ (e : List ℕ). blocks_bytes all ++ e) (ends ∙ ap (λ (i : List ℕ). checked i ++ footer_bytes (footer_behind index place blocks b)) index_is ∙ ap (λ (f : Footer). checked (index_bytes all) ++ footer_bytes f) footer);
+          ∙ ap (λ (e : List ℕ). blocks_bytes all ++ e) (ends ∙ ap (λ (i : List ℕ). checked i ++ footer_bytes (footer_behind index offset blocks b)) index_is ∙ ap (λ (f : Footer). checked (index_bytes all) ++ footer_bytes f) footer);
     } in (table, many)

@@ -39,7 +39,7 @@ rise before (block ∷ blocks) (e ∷ es) h =
     let behind : P (last_key before block) = subst P (sym h.0.last) (rise e.last blocks es h.1) in
     ascend_joined before block (rows_of blocks) h.0.rise behind
 
--- ---- rows before a place
+-- ---- rows before an offset
 
 block_below : (before : List ℕ) (rows : List Row) (key : List ℕ) → Ascend before rows → key_lt (last_key before rows) key ≡ true → AllByRecursion (IsBelow key) rows
 block_below before [] key h lt = tt

@@ -77,61 +77,61 @@ pub entries_begin : (index blocks : ℕ) (bytes : List ℕ) → behind [] (entri
 entries_begin index blocks bytes =
     let k : blocks - 0 ≡ blocks = omega arith in begins (entries_at index (blocks - 0) 0 None bytes) ∙ ap (λ (n : ℕ). entries_at index n 0 None bytes) k
 
-pub entries_go_on : (front : List BlockEntry) (index blocks i place next : ℕ) (bytes : List ℕ) (e : BlockEntry) (after : List ℕ) (total : Result (List BlockEntry) ℕ) → i < blocks → next ≡ place + (e.size + 4)
-    → next_entry_at index place (last_of None front) bytes ≡ Ok (e, after)
-    → behind front (entries_at index (blocks - i) place (last_of None front) bytes) ≡ total → behind (front ++ e ∷ []) (entries_at index (blocks - (i + 1)) next (last_of None (front ++ e ∷ [])) after) ≡ total
+pub entries_go_on : (front : List BlockEntry) (index blocks i offset next : ℕ) (bytes : List ℕ) (e : BlockEntry) (after : List ℕ) (total : Result (List BlockEntry) ℕ) → i < blocks → next ≡ offset + (e.size + 4)
+    → next_entry_at index offset (last_of None front) bytes ≡ Ok (e, after)
+    → behind front (entries_at index (blocks - i) offset (last_of None front) bytes) ≡ total → behind (front ++ e ∷ []) (entries_at index (blocks - (i + 1)) next (last_of None (front ++ e ∷ [])) after) ≡ total
 unfolding entries_at
-entries_go_on front index blocks i place next bytes e after total lt there h so_far =
+entries_go_on front index blocks i offset next bytes e after total lt there h so_far =
     let k : blocks - i ≡ suc (blocks - (i + 1)) = omega arith in
-    let go : behind front (entries_at index (blocks - i) place (last_of None front) bytes) ≡ behind (front ++ e ∷ []) (entries_at index (blocks - (i + 1)) (place + (e.size + 4)) (Some e.last) after) =
-    rw (k, h) (regroup front e (entries_at index (blocks - (i + 1)) (place + (e.size + 4)) (Some e.last) after)) in
+    let go : behind front (entries_at index (blocks - i) offset (last_of None front) bytes) ≡ behind (front ++ e ∷ []) (entries_at index (blocks - (i + 1)) (offset + (e.size + 4)) (Some e.last) after) =
+    rw (k, h) (regroup front e (entries_at index (blocks - (i + 1)) (offset + (e.size + 4)) (Some e.last) after)) in
     ap (λ (key : Option (List ℕ)). behind (front ++ e ∷ []) (entries_at index (blocks - (i + 1)) next key after)) (last_of-more None front e)
     ∙ ap (λ (n : ℕ). behind (front ++ e ∷ []) (entries_at index (blocks - (i + 1)) n (Some e.last) after)) there ∙ sym go ∙ so_far
 
-pub entries_end : (error : FieldError) (front : List BlockEntry) (index blocks i place : ℕ) (bytes : List ℕ) (total : Result (List BlockEntry) ℕ) → i < blocks
-    → Fails error (next_entry_at index place (last_of None front) bytes) → behind front (entries_at index (blocks - i) place (last_of None front) bytes) ≡ total → Fails error total
+pub entries_end : (error : FieldError) (front : List BlockEntry) (index blocks i offset : ℕ) (bytes : List ℕ) (total : Result (List BlockEntry) ℕ) → i < blocks
+    → Fails error (next_entry_at index offset (last_of None front) bytes) → behind front (entries_at index (blocks - i) offset (last_of None front) bytes) ≡ total → Fails error total
 unfolding entries_at
-entries_end errors.OutOfMemory front index blocks i place bytes total lt h so_far = tt
-entries_end (errors.Bad f) front index blocks i place bytes total lt h so_far =
+entries_end errors.OutOfMemory front index blocks i offset bytes total lt h so_far = tt
+entries_end (errors.Bad f) front index blocks i offset bytes total lt h so_far =
     let k : blocks - i ≡ suc (blocks - (i + 1)) = omega arith in
-    let go : behind front (entries_at index (blocks - i) place (last_of None front) bytes) ≡ Err f = rw (k, h) refl in
+    let go : behind front (entries_at index (blocks - i) offset (last_of None front) bytes) ≡ Err f = rw (k, h) refl in
     sym so_far ∙ go
 
-pub entries_done : (front : List BlockEntry) (index blocks i place : ℕ) (bytes : List ℕ) (total : Result (List BlockEntry) ℕ) → blocks ≤ i → ((length bytes == 0) && (place == index)) ≡ true
-    → behind front (entries_at index (blocks - i) place (last_of None front) bytes) ≡ total → total ≡ Ok front
+pub entries_done : (front : List BlockEntry) (index blocks i offset : ℕ) (bytes : List ℕ) (total : Result (List BlockEntry) ℕ) → blocks ≤ i → ((length bytes == 0) && (offset == index)) ≡ true
+    → behind front (entries_at index (blocks - i) offset (last_of None front) bytes) ≡ total → total ≡ Ok front
 unfolding entries_at
-entries_done front index blocks i place bytes total le ends so_far =
+entries_done front index blocks i offset bytes total le ends so_far =
     let k : blocks - i ≡ 0 = omega arith in
-    let go : behind front (entries_at index (blocks - i) place (last_of None front) bytes) ≡ Ok (front ++ []) = rw (k, ends) refl in
+    let go : behind front (entries_at index (blocks - i) offset (last_of None front) bytes) ≡ Ok (front ++ []) = rw (k, ends) refl in
     sym so_far ∙ go ∙ ap (λ (es : List BlockEntry). Ok es) (append-nil front)
 
-pub entries_left : (front : List BlockEntry) (index blocks i place : ℕ) (bytes : List ℕ) (total : Result (List BlockEntry) ℕ) → blocks ≤ i → ((length bytes == 0) && (place == index)) ≡ false
-    → behind front (entries_at index (blocks - i) place (last_of None front) bytes) ≡ total → total ≡ Err (length bytes)
+pub entries_left : (front : List BlockEntry) (index blocks i offset : ℕ) (bytes : List ℕ) (total : Result (List BlockEntry) ℕ) → blocks ≤ i → ((length bytes == 0) && (offset == index)) ≡ false
+    → behind front (entries_at index (blocks - i) offset (last_of None front) bytes) ≡ total → total ≡ Err (length bytes)
 unfolding entries_at
-entries_left front index blocks i place bytes total le ends so_far =
+entries_left front index blocks i offset bytes total le ends so_far =
     let k : blocks - i ≡ 0 = omega arith in
-    let go : behind front (entries_at index (blocks - i) place (last_of None front) bytes) ≡ Err (length bytes) = rw (k, ends) refl in
+    let go : behind front (entries_at index (blocks - i) offset (last_of None front) bytes) ≡ Err (length bytes) = rw (k, ends) refl in
     sym so_far ∙ go
 
 -- an entry that was taken
-pub taken_entry : (left index place : ℕ) (before : Option (List ℕ)) (read : Read BlockEntry) (x : BlockEntry × List ℕ) → fitting_entry left index place before read ≡ Ok x
-    → (read ≡ Ok x) × (entry_fits index place before x.0 ≡ true)
-taken_entry left index place before (Err at) x e = absurd cc
-taken_entry left index place before (Ok y) x e =
-    let g = check_ok (entry_fits index place before y.0) left y x e in
-    (ap (λ (z : BlockEntry × List ℕ). Ok z) g.1, subst (λ (z : BlockEntry × List ℕ). entry_fits index place before z.0 ≡ true) g.1 g.0)
+pub taken_entry : (left index offset : ℕ) (before : Option (List ℕ)) (read : Read BlockEntry) (x : BlockEntry × List ℕ) → fitting_entry left index offset before read ≡ Ok x
+    → (read ≡ Ok x) × (entry_fits index offset before x.0 ≡ true)
+taken_entry left index offset before (Err at) x e = absurd cc
+taken_entry left index offset before (Ok y) x e =
+    let g = check_ok (entry_fits index offset before y.0) left y x e in
+    (ap (λ (z : BlockEntry × List ℕ). Ok z) g.1, subst (λ (z : BlockEntry × List ℕ). entry_fits index offset before z.0 ≡ true) g.1 g.0)
 
 pub both_hold : (b c : Bool) → (b && c) ≡ true → (b ≡ true) × (c ≡ true)
 both_hold true true h = (refl, refl)
 both_hold true false h = absurd cc
 both_hold false c h = absurd cc
 
-pub entry_within : (index place : ℕ) (before : Option (List ℕ)) (bytes : List ℕ) (x : BlockEntry × List ℕ) → next_entry_at index place before bytes ≡ Ok x → place + (x.0.size + 4) ≤ index
+pub entry_within : (index offset : ℕ) (before : Option (List ℕ)) (bytes : List ℕ) (x : BlockEntry × List ℕ) → next_entry_at index offset before bytes ≡ Ok x → offset + (x.0.size + 4) ≤ index
 unfolding next_entry_at
-entry_within index place before bytes x e =
-    let t = taken_entry (length bytes) index place before _ x e in
+entry_within index offset before bytes x e =
+    let t = taken_entry (length bytes) index offset before _ x e in
     let rest = (both_hold _ _ t.1).1 in
-    leb-true (place + (x.0.size + 4)) index (both_hold _ _ rest).0
+    leb-true (offset + (x.0.size + 4)) index (both_hold _ _ rest).0
 
 -- ---- what stands last
 

@@ -86,55 +86,55 @@ over_before : (before : Option (List ℕ)) (key : List ℕ) → key_lt (unwrap_o
 over_before None key h = refl
 over_before (Some k) key h = h
 
-next_again : (index place : ℕ) (before : Option (List ℕ)) (e : BlockEntry) (rest : List ℕ) → IsEntry e → e.place ≡ place → place + (e.size + 4) ≤ index → is_over before e.last ≡ true
-    → next_entry_at index place before (entry_bytes e ++ rest) ≡ Ok (e, rest)
+next_again : (index offset : ℕ) (before : Option (List ℕ)) (e : BlockEntry) (rest : List ℕ) → IsEntry e → e.offset ≡ offset → offset + (e.size + 4) ≤ index → is_over before e.last ≡ true
+    → next_entry_at index offset before (entry_bytes e ++ rest) ≡ Ok (e, rest)
 unfolding next_entry_at
-next_again index place before e rest is there within over =
-    let at : eqb e.place place ≡ true = eq-eqb e.place place there in
-    rw (entry_field.again e rest is, at, le-leb (place + (e.size + 4)) index within, over) refl
+next_again index offset before e rest is there within over =
+    let at : eqb e.offset offset ≡ true = eq-eqb e.offset offset there in
+    rw (entry_field.again e rest is, at, le-leb (offset + (e.size + 4)) index within, over) refl
 
-entries_again : (index place : ℕ) (before : Option (List ℕ)) (blocks : List (List Row)) → AllByRecursion IsBlock blocks → AllByRecursion IsRow (rows_of blocks) → Ascend (unwrap_or before []) (rows_of blocks)
-    → place + length (blocks_bytes blocks) ≡ index → index < 2 ^ 64 → entries_at index (length blocks) place before (flat_map entry_bytes (entries_from place blocks)) ≡ Ok (entries_from place blocks)
+entries_again : (index offset : ℕ) (before : Option (List ℕ)) (blocks : List (List Row)) → AllByRecursion IsBlock blocks → AllByRecursion IsRow (rows_of blocks) → Ascend (unwrap_or before []) (rows_of blocks)
+    → offset + length (blocks_bytes blocks) ≡ index → index < 2 ^ 64 → entries_at index (length blocks) offset before (flat_map entry_bytes (entries_from offset blocks)) ≡ Ok (entries_from offset blocks)
 unfolding entries_at
-entries_again index place before [] cut each rise sum fits =
-    let ends : eqb place index ≡ true = eq-eqb place index (omega (arith, sum)) in
+entries_again index offset before [] cut each rise sum fits =
+    let ends : eqb offset index ≡ true = eq-eqb offset index (omega (arith, sum)) in
     rw ends refl
-entries_again index place before (block ∷ blocks) cut each rise sum fits =
+entries_again index offset before (block ∷ blocks) cut each rise sum fits =
     let key : List ℕ = unwrap_or before [] in
-    let e : BlockEntry = entry_of place block in
+    let e : BlockEntry = entry_of offset block in
     let rows = all_parts IsRow block (rows_of blocks) each in
     let rises = ascend_parts key block (rows_of blocks) rise in
     let last : last_key key block ≡ last_key [] block = same_last key [] block cut.0 in
-    let total : place + (length (rows_bytes block) + 4) + length (blocks_bytes blocks) ≡ index = omega (arith, sum, length-append (block_bytes block) (blocks_bytes blocks), length-checked (rows_bytes block)) in
-    let is : IsEntry e = record { place = omega (arith, total, fits); size = block_short block cut.0 rows.0; last = key_short block cut.0 rows.0 } in
+    let total : offset + (length (rows_bytes block) + 4) + length (blocks_bytes blocks) ≡ index = omega (arith, sum, length-append (block_bytes block) (blocks_bytes blocks), length-checked (rows_bytes block)) in
+    let is : IsEntry e = record { offset = omega (arith, total, fits); size = block_short block cut.0 rows.0; last = key_short block cut.0 rows.0 } in
     let over : is_over before e.last ≡ true = over_before before e.last (subst (λ (k : List ℕ). key_lt key k ≡ true) last (over_block key block cut.0 rises.0)) in
-    let behind : List ℕ = flat_map entry_bytes (entries_from (place + (length (rows_bytes block) + 4)) blocks) in
-    let here : next_entry_at index place before (entry_bytes e ++ behind) ≡ Ok (e, behind) = next_again index place before e behind is refl (omega (arith, total)) over in
-    let rest = entries_again index (place + (length (rows_bytes block) + 4)) (Some (last_key [] block)) blocks cut.1 rows.1 (subst (λ (k : List ℕ). Ascend k (rows_of blocks)) last rises.1) total fits in
+    let behind : List ℕ = flat_map entry_bytes (entries_from (offset + (length (rows_bytes block) + 4)) blocks) in
+    let here : next_entry_at index offset before (entry_bytes e ++ behind) ≡ Ok (e, behind) = next_again index offset before e behind is refl (omega (arith, total)) over in
+    let rest = entries_again index (offset + (length (rows_bytes block) + 4)) (Some (last_key [] block)) blocks cut.1 rows.1 (subst (λ (k : List ℕ). Ascend k (rows_of blocks)) last rises.1) total fits in
     rw here (rw rest refl)
 
 -- ---- blocks
 
-found_again : (before : List ℕ) (place : ℕ) (block : List Row) (bytes : List ℕ) → IsBlock block → AllByRecursion IsRow block → Ascend before block
-    → checked_at place (length (rows_bytes block)) bytes ≡ Ok (rows_bytes block) → block_found before (entry_of place block) bytes ≡ Ok block
+found_again : (before : List ℕ) (offset : ℕ) (block : List Row) (bytes : List ℕ) → IsBlock block → AllByRecursion IsRow block → Ascend before block
+    → checked_at offset (length (rows_bytes block)) bytes ≡ Ok (rows_bytes block) → block_found before (entry_of offset block) bytes ≡ Ok block
 unfolding block_found
-found_again before place block bytes is each rise read =
+found_again before offset block bytes is each rise read =
     let rows : all_rows_at before (last_key [] block) (rows_bytes block) ≡ Ok block = ap (λ (k : List ℕ). all_rows_at before k (rows_bytes block)) (same_last [] before block is) ∙ all_again before block is each rise in
     rw read (rw rows refl)
 
-whole_again : (front tail bytes before : List ℕ) (place : ℕ) (blocks : List (List Row)) → bytes ≡ front ++ (blocks_bytes blocks ++ tail) → place ≡ length front → AllByRecursion IsBlock blocks
-    → AllByRecursion IsRow (rows_of blocks) → Ascend before (rows_of blocks) → AreWhole bytes before (entries_from place blocks) blocks
-whole_again front tail bytes before place [] parts there cut each rise = tt
-whole_again front tail bytes before place (block ∷ blocks) parts there cut each rise =
+whole_again : (front tail bytes before : List ℕ) (offset : ℕ) (blocks : List (List Row)) → bytes ≡ front ++ (blocks_bytes blocks ++ tail) → offset ≡ length front → AllByRecursion IsBlock blocks
+    → AllByRecursion IsRow (rows_of blocks) → Ascend before (rows_of blocks) → AreWhole bytes before (entries_from offset blocks) blocks
+whole_again front tail bytes before offset [] parts there cut each rise = tt
+whole_again front tail bytes before offset (block ∷ blocks) parts there cut each rise =
     let rows = all_parts IsRow block (rows_of blocks) each in
     let rises = ascend_parts before block (rows_of blocks) rise in
     let behind : List ℕ = blocks_bytes blocks ++ tail in
     let apart : bytes ≡ front ++ (block_bytes block ++ behind) = parts ∙ ap (λ (b : List ℕ). front ++ b) (append_assoc (block_bytes block) (blocks_bytes blocks) tail) in
-    let read : checked_at place (length (rows_bytes block)) bytes ≡ Ok (rows_bytes block) = ap (checked_at place (length (rows_bytes block))) apart ∙ checked_again front (rows_bytes block) behind place (length (rows_bytes block)) there refl in
-    let next : place + (length (rows_bytes block) + 4) ≡ length (front ++ block_bytes block) = omega (arith, there, length-append front (block_bytes block), length-checked (rows_bytes block)) in
+    let read : checked_at offset (length (rows_bytes block)) bytes ≡ Ok (rows_bytes block) = ap (checked_at offset (length (rows_bytes block))) apart ∙ checked_again front (rows_bytes block) behind offset (length (rows_bytes block)) there refl in
+    let next : offset + (length (rows_bytes block) + 4) ≡ length (front ++ block_bytes block) = omega (arith, there, length-append front (block_bytes block), length-checked (rows_bytes block)) in
     let key : last_key before block ≡ last_key [] block = same_last before [] block cut.0 in (
-      found_again before place block bytes cut.0 rows.0 rises.0 read,
-      whole_again (front ++ block_bytes block) tail bytes (last_key [] block) (place + (length (rows_bytes block) + 4)) blocks (apart ∙ sym (append_assoc front (block_bytes block) behind)) next cut.1 rows.1 (subst (λ (k : List ℕ). Ascend k (rows_of blocks)) key rises.1),
+      found_again before offset block bytes cut.0 rows.0 rises.0 read,
+      whole_again (front ++ block_bytes block) tail bytes (last_key [] block) (offset + (length (rows_bytes block) + 4)) blocks (apart ∙ sym (append_assoc front (block_bytes block) behind)) next cut.1 rows.1 (subst (λ (k : List ℕ). Ascend k (rows_of blocks)) key rises.1),
     )
 
 -- ---- the row of a key
@@ -207,12 +207,12 @@ row_again : (before : List ℕ) (e : BlockEntry) (block : List Row) (bytes key :
 unfolding row_found
 row_again before e block bytes key read = rw read refl
 
-gets_again : (bytes before : List ℕ) (place : ℕ) (blocks : List (List Row)) (key : List ℕ) → AreWhole bytes before (entries_from place blocks) blocks → AllByRecursion IsBlock blocks → Ascend before (rows_of blocks)
-    → GetGives bytes key (row_of key (rows_of blocks)) (covering before (entries_from place blocks) key)
-gets_again bytes before place [] key whole cut rise = refl
-gets_again bytes before place (block ∷ blocks) key whole cut rise =
-    let e : BlockEntry = entry_of place block in
-    let es : List BlockEntry = entries_from (place + (length (rows_bytes block) + 4)) blocks in
+gets_again : (bytes before : List ℕ) (offset : ℕ) (blocks : List (List Row)) (key : List ℕ) → AreWhole bytes before (entries_from offset blocks) blocks → AllByRecursion IsBlock blocks → Ascend before (rows_of blocks)
+    → GetGives bytes key (row_of key (rows_of blocks)) (covering before (entries_from offset blocks) key)
+gets_again bytes before offset [] key whole cut rise = refl
+gets_again bytes before offset (block ∷ blocks) key whole cut rise =
+    let e : BlockEntry = entry_of offset block in
+    let es : List BlockEntry = entries_from (offset + (length (rows_bytes block) + 4)) blocks in
     let rises = ascend_parts before block (rows_of blocks) rise in
     let last : last_key before block ≡ last_key [] block = same_last before [] block cut.0 in
     let behind : Ascend e.last (rows_of blocks) = subst (λ (k : List ℕ). Ascend k (rows_of blocks)) last rises.1 in
@@ -220,7 +220,7 @@ gets_again bytes before place (block ∷ blocks) key whole cut rise =
     gets_case bytes key (row_of key (block ++ rows_of blocks)) (key_lt e.last key) (covering e.last es key) (Some (before, e))
     (λ below.
     let none : row_of key block ≡ None = none_below before block key rises.0 (subst (λ (k : List ℕ). key_lt k key ≡ true) (sym last) below) in
-    subst (λ (row : Option Row). GetGives bytes key row (covering e.last es key)) (sym (find_behind p block (rows_of blocks) none)) (gets_again bytes e.last (place + (length (rows_bytes block) + 4)) blocks key whole.1 cut.1 behind))
+    subst (λ (row : Option Row). GetGives bytes key row (covering e.last es key)) (sym (find_behind p block (rows_of blocks) none)) (gets_again bytes e.last (offset + (length (rows_bytes block) + 4)) blocks key whole.1 cut.1 behind))
     (λ over.
     let none : row_of key (rows_of blocks) ≡ None = none_above e.last (rows_of blocks) key behind over in
     row_again before e block bytes key whole.0 ∙ ap (λ (row : Option Row). found_row row) (sym (find_front p block (rows_of blocks) none)))

@@ -32,9 +32,9 @@ count_again : (n : ℕ) → n < 2 ^ 32 → from_le_bytes w32 (take 4 (count n)) 
 unfolding count
 count_again n lt = wide32.again n lt
 
-pub tested_again : (place : ℕ) (body : List ℕ) → tested place (length body) (checked body) ≡ Ok body
+pub tested_again : (offset : ℕ) (body : List ℕ) → tested offset (length body) (checked body) ≡ Ok body
 unfolding tested compared checked
-tested_again place body =
+tested_again offset body =
     let check : List ℕ = count (mask (crc32c body)) in
     let long : nat_lt (length (body ++ check)) (length body + 4) ≡ false = le-ltb _ _ (omega (arith, length-append body check, length-count (mask (crc32c body)))) in
     let stored : from_le_bytes w32 (take 4 (drop (length body) (body ++ check))) ≡ mask (crc32c body) =
@@ -43,12 +43,12 @@ tested_again place body =
     rw (long, take_at body check (length body) refl, stored, same) refl
 
 -- what stands in a file with its check is found there
-pub checked_again : (front body behind : List ℕ) (place size : ℕ) → place ≡ length front → size ≡ length body → checked_at place size (front ++ (checked body ++ behind)) ≡ Ok body
-checked_again front body behind place size there sized =
-    let rest : drop place (front ++ (checked body ++ behind)) ≡ checked body ++ behind = drop_at front (checked body ++ behind) place (sym there) in
+pub checked_again : (front body behind : List ℕ) (offset size : ℕ) → offset ≡ length front → size ≡ length body → checked_at offset size (front ++ (checked body ++ behind)) ≡ Ok body
+checked_again front body behind offset size there sized =
+    let rest : drop offset (front ++ (checked body ++ behind)) ≡ checked body ++ behind = drop_at front (checked body ++ behind) offset (sym there) in
     let whole : length (checked body) ≡ size + 4 = omega (arith, length-checked body, sized) in
-    let part : part_at place (size + 4) (front ++ (checked body ++ behind)) ≡ checked body = ap (take (size + 4)) rest ∙ take_at (checked body) behind (size + 4) whole in
-    ap (tested place size) part ∙ ap (λ (n : ℕ). tested place n (checked body)) sized ∙ tested_again place body
+    let part : part_at offset (size + 4) (front ++ (checked body ++ behind)) ≡ checked body = ap (take (size + 4)) rest ∙ take_at (checked body) behind (size + 4) whole in
+    ap (tested offset size) part ∙ ap (λ (n : ℕ). tested offset n (checked body)) sized ∙ tested_again offset body
 
 -- ---- rows
 
@@ -211,9 +211,9 @@ all_again before (row ∷ rows) is each rise =
 -- ---- entries
 
 abbrev split_entry : BlockEntry → (ℕ × ℕ) × List ℕ
-split_entry e = ((e.place, e.size), e.last)
+split_entry e = ((e.offset, e.size), e.last)
 
-entry_parts : IsField entry_at (λ e. (number e.place ++ count e.size) ++ (count (length e.last) ++ e.last)) (λ e. ((e.place < 2 ^ 64) × (e.size < 2 ^ 32)) × (length e.last < 2 ^ 32))
+entry_parts : IsField entry_at (λ e. (number e.offset ++ count e.size) ++ (count (length e.last) ++ e.last)) (λ e. ((e.offset < 2 ^ 64) × (e.size < 2 ^ 32)) × (length e.last < 2 ^ 32))
 unfolding entry_at
 entry_parts =
     made_field make_entry split_entry _ _ _ (λ p _. refl) (λ e. refl) (both_field _ _ _ _ _ _ (both_field _ _ _ _ _ _ number64 number32) (sized_field (number_at w32) count (λ n. n < 2 ^ 32) number32))
@@ -221,9 +221,9 @@ entry_parts =
 -- an entry is read as it is spelled
 pub entry_field : IsField entry_at entry_bytes IsEntry
 entry_field =
-    refit_field entry_at (λ e. (number e.place ++ count e.size) ++ (count (length e.last) ++ e.last)) (λ e. ((e.place < 2 ^ 64) × (e.size < 2 ^ 32)) × (length e.last < 2 ^ 32)) entry_bytes IsEntry
-    (λ e. append_assoc (number e.place) (count e.size) (count (length e.last) ++ e.last))
-    (λ e f. record { place = f.0.0; size = f.0.1; last = f.1 }) (λ e h. ((h.place, h.size), h.last)) entry_parts
+    refit_field entry_at (λ e. (number e.offset ++ count e.size) ++ (count (length e.last) ++ e.last)) (λ e. ((e.offset < 2 ^ 64) × (e.size < 2 ^ 32)) × (length e.last < 2 ^ 32)) entry_bytes IsEntry
+    (λ e. append_assoc (number e.offset) (count e.size) (count (length e.last) ++ e.last))
+    (λ e f. record { offset = f.0.0; size = f.0.1; last = f.1 }) (λ e h. ((h.offset, h.size), h.last)) entry_parts
 
 -- ---- the footer
 

@@ -23,19 +23,19 @@ both_true : (b c : Bool) → b ≡ true → c ≡ true → (b && c) ≡ true
 both_true b c p q = rw (p, q) refl
 
 -- entries that were read are in order, and as many as were asked for
-pub entries_listed : (index n place : ℕ) (before : Option (List ℕ)) (bytes : List ℕ) (es : List BlockEntry) → entries_at index n place before bytes ≡ Ok es
-    → (in_order index place before es ≡ true) × (length es ≡ n)
+pub entries_listed : (index n offset : ℕ) (before : Option (List ℕ)) (bytes : List ℕ) (es : List BlockEntry) → entries_at index n offset before bytes ≡ Ok es
+    → (in_order index offset before es ≡ true) × (length es ≡ n)
 unfolding entries_at next_entry_at
-entries_listed index zero place before bytes es h =
-    let g = check_ok ((length bytes == 0) && (place == index)) (length bytes) [] es h in
-    subst (λ (xs : List BlockEntry). (in_order index place before xs ≡ true) × (length xs ≡ 0)) g.1 ((both_hold _ _ g.0).1, refl)
-entries_listed index (suc n) place before bytes es h =
-    let a = bind_ok (next_entry_at index place before bytes) (λ e. entries_at index n (place + (e.0.size + 4)) (Some e.0.last) e.1 >>= λ others. Ok (e.0 ∷ others)) es h in
-    let b = bind_ok (entries_at index n (place + (a.0.0.size + 4)) (Some a.0.0.last) a.0.1) (λ others. Ok (a.0.0 ∷ others)) es a.2 in
-    let t = taken_entry (length bytes) index place before _ a.0 a.1 in
-    let rest = entries_listed index n (place + (a.0.0.size + 4)) (Some a.0.0.last) a.0.1 b.0 b.1 in
+entries_listed index zero offset before bytes es h =
+    let g = check_ok ((length bytes == 0) && (offset == index)) (length bytes) [] es h in
+    subst (λ (xs : List BlockEntry). (in_order index offset before xs ≡ true) × (length xs ≡ 0)) g.1 ((both_hold _ _ g.0).1, refl)
+entries_listed index (suc n) offset before bytes es h =
+    let a = bind_ok (next_entry_at index offset before bytes) (λ e. entries_at index n (offset + (e.0.size + 4)) (Some e.0.last) e.1 >>= λ others. Ok (e.0 ∷ others)) es h in
+    let b = bind_ok (entries_at index n (offset + (a.0.0.size + 4)) (Some a.0.0.last) a.0.1) (λ others. Ok (a.0.0 ∷ others)) es a.2 in
+    let t = taken_entry (length bytes) index offset before _ a.0 a.1 in
+    let rest = entries_listed index n (offset + (a.0.0.size + 4)) (Some a.0.0.last) a.0.1 b.0 b.1 in
     let made : List BlockEntry = a.0.0 ∷ b.0 in
-    subst (λ (xs : List BlockEntry). (in_order index place before xs ≡ true) × (length xs ≡ suc n)) (ok_is made es b.2) (both_true _ _ t.1 rest.0, ap suc rest.1)
+    subst (λ (xs : List BlockEntry). (in_order index offset before xs ≡ true) × (length xs ≡ suc n)) (ok_is made es b.2) (both_true _ _ t.1 rest.0, ap suc rest.1)
 
 abbrev found : BlockEntry → Option BlockEntry
 found x = Some x
@@ -47,34 +47,34 @@ no_entry : (x : BlockEntry) → found x ≡ (let none : Option BlockEntry = None
 no_entry x e = cc
 
 -- the keys behind one are over it
-over : (index place : ℕ) (key : List ℕ) (es : List BlockEntry) (k : ℕ) (x : BlockEntry) → in_order index place (Some key) es ≡ true → found x ≡ slice_get es k → key_lt key x.last ≡ true
-over index place key [] k x h e = absurd (no_entry x e)
-over index place key (first ∷ es) zero x h e =
-    let fits = both_hold (entry_fits index place (Some key) first) _ h in
+over : (index offset : ℕ) (key : List ℕ) (es : List BlockEntry) (k : ℕ) (x : BlockEntry) → in_order index offset (Some key) es ≡ true → found x ≡ slice_get es k → key_lt key x.last ≡ true
+over index offset key [] k x h e = absurd (no_entry x e)
+over index offset key (first ∷ es) zero x h e =
+    let fits = both_hold (entry_fits index offset (Some key) first) _ h in
     subst (λ (y : BlockEntry). key_lt key y.last ≡ true) (sym (entry_is x first e)) (both_hold _ _ (both_hold _ _ fits.0).1).1
-over index place key (first ∷ es) (suc k) x h e =
-    let fits = both_hold (entry_fits index place (Some key) first) _ h in
-    lt_then_lt key first.last x.last ((both_hold _ _ (both_hold _ _ fits.0).1).1) (over index (place + (first.size + 4)) first.last es k x fits.1 e)
+over index offset key (first ∷ es) (suc k) x h e =
+    let fits = both_hold (entry_fits index offset (Some key) first) _ h in
+    lt_then_lt key first.last x.last ((both_hold _ _ (both_hold _ _ fits.0).1).1) (over index (offset + (first.size + 4)) first.last es k x fits.1 e)
 
 -- the last keys rise
-pub rising : (index place : ℕ) (before : Option (List ℕ)) (es : List BlockEntry) (k m : ℕ) (x y : BlockEntry) → in_order index place before es ≡ true → k < m
+pub rising : (index offset : ℕ) (before : Option (List ℕ)) (es : List BlockEntry) (k m : ℕ) (x y : BlockEntry) → in_order index offset before es ≡ true → k < m
     → found x ≡ slice_get es k → found y ≡ slice_get es m → key_lt x.last y.last ≡ true
-rising index place before [] k m x y h lt e f = absurd (no_entry x e)
-rising index place before (first ∷ es) k zero x y h lt e f = absurd (omega (arith, lt))
-rising index place before (first ∷ es) zero (suc m) x y h lt e f =
-    let fits = both_hold (entry_fits index place before first) _ h in
-    subst (λ (z : BlockEntry). key_lt z.last y.last ≡ true) (sym (entry_is x first e)) (over index (place + (first.size + 4)) first.last es m y fits.1 f)
-rising index place before (first ∷ es) (suc k) (suc m) x y h lt e f =
-    let fits = both_hold (entry_fits index place before first) _ h in
-    rising index (place + (first.size + 4)) (Some first.last) es k m x y fits.1 (omega (arith, lt)) e f
+rising index offset before [] k m x y h lt e f = absurd (no_entry x e)
+rising index offset before (first ∷ es) k zero x y h lt e f = absurd (omega (arith, lt))
+rising index offset before (first ∷ es) zero (suc m) x y h lt e f =
+    let fits = both_hold (entry_fits index offset before first) _ h in
+    subst (λ (z : BlockEntry). key_lt z.last y.last ≡ true) (sym (entry_is x first e)) (over index (offset + (first.size + 4)) first.last es m y fits.1 f)
+rising index offset before (first ∷ es) (suc k) (suc m) x y h lt e f =
+    let fits = both_hold (entry_fits index offset before first) _ h in
+    rising index (offset + (first.size + 4)) (Some first.last) es k m x y fits.1 (omega (arith, lt)) e f
 
 -- ---- halving
 
--- the entries before a place are below a key
+-- the entries before an offset are below a key
 abbrev pub AreBelow : List BlockEntry → List ℕ → ℕ → Type 0
 AreBelow es key n = (k : ℕ) (e : BlockEntry) → k < n → found e ≡ slice_get es k → key_lt e.last key ≡ true
 
--- the entries from a place on aren't
+-- the entries from an offset on aren't
 abbrev pub AreNotBelow : List BlockEntry → List ℕ → ℕ → Type 0
 AreNotBelow es key n = (k : ℕ) (e : BlockEntry) → n ≤ k → found e ≡ slice_get es k → key_lt e.last key ≡ false
 

@@ -25,10 +25,10 @@ length-entry e =
     let sizes : List ℕ = count e.size ++ behind in
     omega (
       arith,
-      length-append (number e.place) sizes,
+      length-append (number e.offset) sizes,
       length-append (count e.size) behind,
       length-append (count (length e.last)) e.last,
-      length-number e.place,
+      length-number e.offset,
       length-count e.size,
       length-count (length e.last),
     )
@@ -100,11 +100,11 @@ blocks_most (block ∷ blocks) cut each =
     let behind : length (blocks_bytes blocks) ≤ 70676 * length blocks = blocks_most blocks cut.1 rows.1 in
     omega (arith, here, behind, length-append (block_bytes block) (blocks_bytes blocks))
 
-index_least : (place : ℕ) (blocks : List (List Row)) → 16 * length blocks ≤ length (flat_map entry_bytes (entries_from place blocks))
-index_least place [] = omega arith
-index_least place (block ∷ blocks) =
-    let next : ℕ = place + (length (rows_bytes block) + 4) in
-    omega (arith, index_least next blocks, length-append (entry_bytes (entry_of place block)) (flat_map entry_bytes (entries_from next blocks)), length-entry (entry_of place block))
+index_least : (offset : ℕ) (blocks : List (List Row)) → 16 * length blocks ≤ length (flat_map entry_bytes (entries_from offset blocks))
+index_least offset [] = omega arith
+index_least offset (block ∷ blocks) =
+    let next : ℕ = offset + (length (rows_bytes block) + 4) in
+    omega (arith, index_least next blocks, length-append (entry_bytes (entry_of offset block)) (flat_map entry_bytes (entries_from next blocks)), length-entry (entry_of offset block))
 
 rows_most : (blocks : List (List Row)) → length (rows_of blocks) ≤ length (blocks_bytes blocks)
 rows_most [] = omega arith
@@ -125,13 +125,13 @@ tables_are_small first last rows bytes table =
 -- ---- files that open
 
 -- the blocks of entries end no farther behind than their sizes tell
-index_most : (index place : ℕ) (before : Option (List ℕ)) (entries : List BlockEntry) → AllByRecursion IsEntry entries → in_order index place before entries ≡ true → index ≤ place + 4294967299 * length entries
-index_most index place before [] each follow =
-    let there : place ≡ index = eqb-true place index follow in
+index_most : (index offset : ℕ) (before : Option (List ℕ)) (entries : List BlockEntry) → AllByRecursion IsEntry entries → in_order index offset before entries ≡ true → index ≤ offset + 4294967299 * length entries
+index_most index offset before [] each follow =
+    let there : offset ≡ index = eqb-true offset index follow in
     omega (arith, there)
-index_most index place before (e ∷ entries) each follow =
-    let fits = and_parts (entry_fits index place before e) (in_order index (place + (e.size + 4)) (Some e.last) entries) follow in
-    let behind : index ≤ place + (e.size + 4) + 4294967299 * length entries = index_most index (place + (e.size + 4)) (Some e.last) entries each.1 fits.1 in
+index_most index offset before (e ∷ entries) each follow =
+    let fits = and_parts (entry_fits index offset before e) (in_order index (offset + (e.size + 4)) (Some e.last) entries) follow in
+    let behind : index ≤ offset + (e.size + 4) + 4294967299 * length entries = index_most index (offset + (e.size + 4)) (Some e.last) entries each.1 fits.1 in
     let size : e.size < 2 ^ 32 = each.0.size in
     omega (arith, behind, size)
 
@@ -140,28 +140,28 @@ entries_least [] = omega arith
 entries_least (e ∷ entries) = omega (arith, entries_least entries, length-append (entry_bytes e) (flat_map entry_bytes entries), length-entry e)
 
 -- the rows of blocks that are whole, each of which has a byte at least
-rows_within : (index place : ℕ) (over : Option (List ℕ)) (before bytes : List ℕ) (entries : List BlockEntry) (blocks : List (List Row)) → AreBytes bytes → in_order index place over entries ≡ true
-    → AreWhole bytes before entries blocks → place + length (rows_of blocks) ≤ index
-rows_within index place over before bytes [] [] are follow whole =
-    let there : place ≡ index = eqb-true place index follow in
+rows_within : (index offset : ℕ) (over : Option (List ℕ)) (before bytes : List ℕ) (entries : List BlockEntry) (blocks : List (List Row)) → AreBytes bytes → in_order index offset over entries ≡ true
+    → AreWhole bytes before entries blocks → offset + length (rows_of blocks) ≤ index
+rows_within index offset over before bytes [] [] are follow whole =
+    let there : offset ≡ index = eqb-true offset index follow in
     omega (arith, there)
-rows_within index place over before bytes (e ∷ entries) [] are follow whole = absurd whole
-rows_within index place over before bytes [] (block ∷ blocks) are follow whole = absurd whole
-rows_within index place over before bytes (e ∷ entries) (block ∷ blocks) are follow whole =
-    let fits = and_parts (entry_fits index place over e) (in_order index (place + (e.size + 4)) (Some e.last) entries) follow in
-    let behind : place + (e.size + 4) + length (rows_of blocks) ≤ index = rows_within index (place + (e.size + 4)) (Some e.last) e.last bytes entries blocks are fits.1 whole.1 in
+rows_within index offset over before bytes (e ∷ entries) [] are follow whole = absurd whole
+rows_within index offset over before bytes [] (block ∷ blocks) are follow whole = absurd whole
+rows_within index offset over before bytes (e ∷ entries) (block ∷ blocks) are follow whole =
+    let fits = and_parts (entry_fits index offset over e) (in_order index (offset + (e.size + 4)) (Some e.last) entries) follow in
+    let behind : offset + (e.size + 4) + length (rows_of blocks) ≤ index = rows_within index (offset + (e.size + 4)) (Some e.last) e.last bytes entries blocks are fits.1 whole.1 in
     let sized : length (rows_bytes block) ≡ e.size = ((blocks_spelled before e bytes block are).0 whole.0).sized in
     omega (arith, behind, sized, rows_long block, length-append block (rows_of blocks))
 
 small : (size : ℕ) (bytes : List ℕ) (f : Footer) (entries : List BlockEntry) → AreBytes bytes → IsFooterAt size bytes f → IsIndexAt f bytes entries
     → (size < 2 ^ 61) × ((blocks : List (List Row)) → AreWhole bytes [] entries blocks → length (rows_of blocks) ≤ size)
 small size bytes f entries are footer index =
-    let most_places : f.index ≤ 0 + 4294967299 * length entries = index_most f.index 0 None entries index.each index.follow in
+    let most_offsets : f.index ≤ 0 + 4294967299 * length entries = index_most f.index 0 None entries index.each index.follow in
     let least : 16 * length entries ≤ length (flat_map entry_bytes entries) = entries_least entries in
     let sized : length (flat_map entry_bytes entries) ≡ f.size = index.sized in
     let whole_size : f.index + (f.size + 52) ≡ size = footer.whole in
     let fits : f.size < 2 ^ 32 = footer.fits.size in (
-      omega (arith, most_places, least, sized, whole_size, fits),
+      omega (arith, most_offsets, least, sized, whole_size, fits),
       λ blocks whole.
           let within : 0 + length (rows_of blocks) ≤ f.index = rows_within f.index 0 None [] bytes entries blocks are index.follow whole in
           omega (arith, within, whole_size),

@@ -19,7 +19,7 @@ use Rattle.keel_table.specs.declared.index.BlockEntry.{BlockEntry}
 use Rattle.keel_table.specs.declared.index.Footer.{Footer}
 use Rattle.keel_base.specs.Rows.{IsRow}
 use Rattle.keel_table.specs.Spelling.{number, count, row_bytes, rows_bytes, Ascend, last_key, checked, entry_bytes, IsEntry, magic, footer_body}
-use Rattle.keel_table.specs.Fields.{row_at, may_stand, has_place, placed_row, next_row_at, rows_at, all_rows_at, entry_at, entry_fits, fitting_entry, next_entry_at, entries_at, footer_at, in_order}
+use Rattle.keel_table.specs.Fields.{row_at, may_stand, has_offset, placed_row, next_row_at, rows_at, all_rows_at, entry_at, entry_fits, fitting_entry, next_entry_at, entries_at, footer_at, in_order}
 use Rattle.keel_table.specs.Opening.{Damage, bad_check, bad_shape, and_then, needs, ending_at, compared, tested, part_at, checked_at, footer_of_size, footer_found, entries_in, entries_found, rows_in, block_found}
 use Rattle.keel_table.specs.declared.fault.TableFault.{TableFault}
 use Rattle.keel_table.specs.Answers.{Finds}
@@ -89,12 +89,12 @@ record IsPart (size : ℕ) (part body : List ℕ) : Type 0 where
   sized : length body ≡ size
   bytes : AreBytes body
 
-tested_takes : (place size : ℕ) (part body : List ℕ) → length part ≤ size + 4 → AreBytes part → tested place size part ≡ Ok body → IsPart size part body
+tested_takes : (offset size : ℕ) (part body : List ℕ) → length part ≤ size + 4 → AreBytes part → tested offset size part ≡ Ok body → IsPart size part body
 unfolding tested checked
-tested_takes place size part body most are e =
+tested_takes offset size part body most are e =
     let front : List ℕ = take size part in
     let behind : List ℕ = drop size part in
-    let long = unless_ok (ltb (length part) (size + 4)) (bad_shape place) (compared front (from_le_bytes w32 (take 4 behind))) body e in
+    let long = unless_ok (ltb (length part) (size + 4)) (bad_shape offset) (compared front (from_le_bytes w32 (take 4 behind))) body e in
     let least : size + 4 ≤ length part = ltb-false (length part) (size + 4) long.0 in
     let same = compared_ok front (from_le_bytes w32 (take 4 behind)) body long.1 in
     let four : length behind ≡ 4 = omega (arith, length-drop size part) in
@@ -105,15 +105,15 @@ tested_takes place size part body most are e =
     let sized : length front ≡ size = omega (arith, length-take size part) in
     subst (IsPart size part) same.1 (record { spelled = parts; sized = sized; bytes = All-take (λ byte. byte < 256) size part are })
 
-part_takes : (place size : ℕ) (bytes body : List ℕ) → AreBytes bytes → checked_at place size bytes ≡ Ok body → IsPart size (part_at place (size + 4) bytes) body
-part_takes place size bytes body are e =
-    let behind : AreBytes (drop place bytes) = All-drop (λ byte. byte < 256) place bytes are in
-    tested_takes place size (part_at place (size + 4) bytes) body (omega (arith, length-take (size + 4) (drop place bytes))) (All-take (λ byte. byte < 256) (size + 4) (drop place bytes) behind) e
+part_takes : (offset size : ℕ) (bytes body : List ℕ) → AreBytes bytes → checked_at offset size bytes ≡ Ok body → IsPart size (part_at offset (size + 4) bytes) body
+part_takes offset size bytes body are e =
+    let behind : AreBytes (drop offset bytes) = All-drop (λ byte. byte < 256) offset bytes are in
+    tested_takes offset size (part_at offset (size + 4) bytes) body (omega (arith, length-take (size + 4) (drop offset bytes))) (All-take (λ byte. byte < 256) (size + 4) (drop offset bytes) behind) e
 
 -- bytes that stand with their check where they are asked for are found
-part_again : (place size : ℕ) (bytes body : List ℕ) → part_at place (size + 4) bytes ≡ checked body → length body ≡ size → checked_at place size bytes ≡ Ok body
-part_again place size bytes body spelled sized =
-    ap (tested place size) spelled ∙ ap (λ (n : ℕ). tested place n (checked body)) (sym sized) ∙ tested_again place body
+part_again : (offset size : ℕ) (bytes body : List ℕ) → part_at offset (size + 4) bytes ≡ checked body → length body ≡ size → checked_at offset size bytes ≡ Ok body
+part_again offset size bytes body spelled sized =
+    ap (tested offset size) spelled ∙ ap (λ (n : ℕ). tested offset n (checked body)) (sym sized) ∙ tested_again offset body
 
 -- ---- rows
 
@@ -125,11 +125,11 @@ record AreRows (before last bytes : List ℕ) (rows : List Row) : Type 0 where
   rise : Ascend before rows
   ends : last_key before rows ≡ last
 
-placed_ok : (left : ℕ) (before last : List ℕ) (read : Read Row) (x : Row × List ℕ) → placed_row left before last read ≡ Ok x → (read ≡ Ok x) × (has_place before last x.0.key (length x.1) ≡ true)
+placed_ok : (left : ℕ) (before last : List ℕ) (read : Read Row) (x : Row × List ℕ) → placed_row left before last read ≡ Ok x → (read ≡ Ok x) × (has_offset before last x.0.key (length x.1) ≡ true)
 placed_ok left before last (Err at) x e = absurd cc
 placed_ok left before last (Ok y) x e =
-    let g = check_ok (has_place before last y.0.key (length y.1)) left y x e in
-    (ap (λ (z : Row × List ℕ). Ok z) g.1, subst (λ (z : Row × List ℕ). has_place before last z.0.key (length z.1) ≡ true) g.1 g.0)
+    let g = check_ok (has_offset before last y.0.key (length y.1)) left y x e in
+    (ap (λ (z : Row × List ℕ). Ok z) g.1, subst (λ (z : Row × List ℕ). has_offset before last z.0.key (length z.1) ≡ true) g.1 g.0)
 
 next_takes : (before last bytes : List ℕ) (x : Row × List ℕ) → IsBytes bytes → next_row_at before last bytes ≡ Ok x
     → Takes bytes (row_bytes x.0) x.1 × IsRow x.0 × (key_lt before x.0.key ≡ true) × (may_stand (key_cmp x.0.key last) (length x.1) ≡ true)
@@ -137,8 +137,8 @@ unfolding next_row_at
 next_takes before last bytes x fits e =
     let p = placed_ok (length bytes) before last (row_at bytes) x e in
     let t = row_field.takes bytes x fits p.0 in
-    let places = and_parts (key_lt before x.0.key) (may_stand (key_cmp x.0.key last) (length x.1)) p.1 in
-    (t.0, t.1, places.0, places.1)
+    let offsets = and_parts (key_lt before x.0.key) (may_stand (key_cmp x.0.key last) (length x.1)) p.1 in
+    (t.0, t.1, offsets.0, offsets.1)
 
 stands_last : (o : Ordering) (left : ℕ) → left ≡ 0 → may_stand o left ≡ true → is_eq o ≡ true
 stands_last Less left none h = absurd (let none_left : may_stand Less 0 ≡ true = subst (λ (n : ℕ). may_stand Less n ≡ true) none h in cc)
@@ -193,7 +193,7 @@ rows_fit before e body rows fits read =
     record { some = t.some; each = t.each; rise = t.rise; last = t.ends }
 
 pub found_fits : (before : List ℕ) (e : BlockEntry) (body : List ℕ) (result : Result (List Row) TableFault) → IsBytes body → Finds (λ (rows : List Row). rows) result (rows_in before e body) → IfOk result (FitEntry before e)
-found_fits before e body (Ok rows) fits h = rows_fit before e body rows fits (ending_ok (e.place + e.size) (all_rows_at before e.last body) rows h)
+found_fits before e body (Ok rows) fits h = rows_fit before e body rows fits (ending_ok (e.offset + e.size) (all_rows_at before e.last body) rows h)
 found_fits before e body (Err fault) fits h = tt
 
 -- ---- blocks
@@ -201,16 +201,16 @@ found_fits before e body (Err fault) fits h = tt
 block_takes : (before : List ℕ) (e : BlockEntry) (bytes : List ℕ) (rows : List Row) → AreBytes bytes → block_found before e bytes ≡ Ok rows → IsBlockAt before e bytes rows
 unfolding block_found
 block_takes before e bytes rows are h =
-    let body = then_ok (checked_at e.place e.size bytes) (rows_in before e) rows h in
-    let part = part_takes e.place e.size bytes body.0 are body.1 in
-    let read : all_rows_at before e.last body.0 ≡ Ok rows = ending_ok (e.place + e.size) (all_rows_at before e.last body.0) rows body.2 in
+    let body = then_ok (checked_at e.offset e.size bytes) (rows_in before e) rows h in
+    let part = part_takes e.offset e.size bytes body.0 are body.1 in
+    let read : all_rows_at before e.last body.0 ≡ Ok rows = ending_ok (e.offset + e.size) (all_rows_at before e.last body.0) rows body.2 in
     let t = rows_take (length body.0) before e.last body.0 rows (are_bytes body.0 part.bytes) read in
     record { spelled = part.spelled ∙ ap checked t.spelled; sized = ap length (sym t.spelled) ∙ part.sized; some = t.some; each = t.each; rise = t.rise; last = t.ends }
 
 block_again : (before : List ℕ) (e : BlockEntry) (bytes : List ℕ) (rows : List Row) → IsBlockAt before e bytes rows → block_found before e bytes ≡ Ok rows
 unfolding block_found
 block_again before e bytes rows is =
-    let read : checked_at e.place e.size bytes ≡ Ok (rows_bytes rows) = part_again e.place e.size bytes (rows_bytes rows) is.spelled is.sized in
+    let read : checked_at e.offset e.size bytes ≡ Ok (rows_bytes rows) = part_again e.offset e.size bytes (rows_bytes rows) is.spelled is.sized in
     let listed : all_rows_at before e.last (rows_bytes rows) ≡ Ok rows = all_rows_again before e.last rows is.some is.each is.rise is.last in
     rw read (rw listed refl)
 
@@ -220,60 +220,60 @@ blocks_spelled before e bytes rows are = (block_takes before e bytes rows are, b
 -- ---- the index
 
 -- entries that the bytes are, of blocks that follow each other
-record AreEntries (index place : ℕ) (before : Option (List ℕ)) (blocks : ℕ) (bytes : List ℕ) (entries : List BlockEntry) : Type 0 where
+record AreEntries (index offset : ℕ) (before : Option (List ℕ)) (blocks : ℕ) (bytes : List ℕ) (entries : List BlockEntry) : Type 0 where
   spelled : bytes ≡ flat_map entry_bytes entries
   counted : length entries ≡ blocks
   each : AllByRecursion IsEntry entries
-  follow : in_order index place before entries ≡ true
+  follow : in_order index offset before entries ≡ true
 
-next_entry_takes : (index place : ℕ) (before : Option (List ℕ)) (bytes : List ℕ) (x : BlockEntry × List ℕ) → IsBytes bytes → next_entry_at index place before bytes ≡ Ok x
-    → Takes bytes (entry_bytes x.0) x.1 × IsEntry x.0 × (entry_fits index place before x.0 ≡ true)
+next_entry_takes : (index offset : ℕ) (before : Option (List ℕ)) (bytes : List ℕ) (x : BlockEntry × List ℕ) → IsBytes bytes → next_entry_at index offset before bytes ≡ Ok x
+    → Takes bytes (entry_bytes x.0) x.1 × IsEntry x.0 × (entry_fits index offset before x.0 ≡ true)
 unfolding next_entry_at
-next_entry_takes index place before bytes x fits e =
-    let taken = taken_entry (length bytes) index place before (entry_at bytes) x e in
+next_entry_takes index offset before bytes x fits e =
+    let taken = taken_entry (length bytes) index offset before (entry_at bytes) x e in
     let t = entry_field.takes bytes x fits taken.0 in
     (t.0, t.1, taken.1)
 
-entries_take : (index blocks place : ℕ) (before : Option (List ℕ)) (bytes : List ℕ) (entries : List BlockEntry) → IsBytes bytes → entries_at index blocks place before bytes ≡ Ok entries
-    → AreEntries index place before blocks bytes entries
+entries_take : (index blocks offset : ℕ) (before : Option (List ℕ)) (bytes : List ℕ) (entries : List BlockEntry) → IsBytes bytes → entries_at index blocks offset before bytes ≡ Ok entries
+    → AreEntries index offset before blocks bytes entries
 unfolding entries_at
-entries_take index zero place before bytes entries fits e =
-    let g = check_ok (eqb (length bytes) 0 && eqb place index) (length bytes) [] entries e in
-    let ends = and_parts (eqb (length bytes) 0) (eqb place index) g.0 in
+entries_take index zero offset before bytes entries fits e =
+    let g = check_ok (eqb (length bytes) 0 && eqb offset index) (length bytes) [] entries e in
+    let ends = and_parts (eqb (length bytes) 0) (eqb offset index) g.0 in
     let nothing : bytes ≡ [] = nil_from_length bytes (eqb-true (length bytes) 0 ends.0) in
-    subst (AreEntries index place before 0 bytes) g.1 (record { spelled = nothing; counted = refl; each = tt; follow = ends.1 })
-entries_take index (suc blocks) place before bytes entries fits e =
-    let x = bind_ok (next_entry_at index place before bytes) (λ x. entries_at index blocks (place + (x.0.size + 4)) (Some x.0.last) x.1 >>= λ others. Ok (x.0 ∷ others)) entries e in
-    let rest = bind_ok (entries_at index blocks (place + (x.0.0.size + 4)) (Some x.0.0.last) x.0.1) (λ others. Ok (x.0.0 ∷ others)) entries x.2 in
-    let t = next_entry_takes index place before bytes x.0 fits x.1 in
-    let others = entries_take index blocks (place + (x.0.0.size + 4)) (Some x.0.0.last) x.0.1 rest.0 t.0.rest_fits rest.1 in
-    subst (AreEntries index place before (suc blocks) bytes) (ok_is (x.0.0 ∷ rest.0) entries rest.2)
+    subst (AreEntries index offset before 0 bytes) g.1 (record { spelled = nothing; counted = refl; each = tt; follow = ends.1 })
+entries_take index (suc blocks) offset before bytes entries fits e =
+    let x = bind_ok (next_entry_at index offset before bytes) (λ x. entries_at index blocks (offset + (x.0.size + 4)) (Some x.0.last) x.1 >>= λ others. Ok (x.0 ∷ others)) entries e in
+    let rest = bind_ok (entries_at index blocks (offset + (x.0.0.size + 4)) (Some x.0.0.last) x.0.1) (λ others. Ok (x.0.0 ∷ others)) entries x.2 in
+    let t = next_entry_takes index offset before bytes x.0 fits x.1 in
+    let others = entries_take index blocks (offset + (x.0.0.size + 4)) (Some x.0.0.last) x.0.1 rest.0 t.0.rest_fits rest.1 in
+    subst (AreEntries index offset before (suc blocks) bytes) (ok_is (x.0.0 ∷ rest.0) entries rest.2)
     (record {
       spelled = t.0.parts ∙ ap (λ (b : List ℕ). entry_bytes x.0.0 ++ b) others.spelled;
       counted = ap suc others.counted;
       each = (t.1, others.each);
-      follow = and_from (entry_fits index place before x.0.0) (in_order index (place + (x.0.0.size + 4)) (Some x.0.0.last) rest.0) t.2 others.follow;
+      follow = and_from (entry_fits index offset before x.0.0) (in_order index (offset + (x.0.0.size + 4)) (Some x.0.0.last) rest.0) t.2 others.follow;
     })
 
-fitting_again : (left index place : ℕ) (before : Option (List ℕ)) (x : BlockEntry × List ℕ) → entry_fits index place before x.0 ≡ true → fitting_entry left index place before (Ok x) ≡ Ok x
-fitting_again left index place before x fits = chosen (entry_fits index place before x.0) (Ok x) (Err left) fits
+fitting_again : (left index offset : ℕ) (before : Option (List ℕ)) (x : BlockEntry × List ℕ) → entry_fits index offset before x.0 ≡ true → fitting_entry left index offset before (Ok x) ≡ Ok x
+fitting_again left index offset before x fits = chosen (entry_fits index offset before x.0) (Ok x) (Err left) fits
 
-next_entry_again : (index place : ℕ) (before : Option (List ℕ)) (e : BlockEntry) (rest : List ℕ) → IsEntry e → entry_fits index place before e ≡ true
-    → next_entry_at index place before (entry_bytes e ++ rest) ≡ Ok (e, rest)
+next_entry_again : (index offset : ℕ) (before : Option (List ℕ)) (e : BlockEntry) (rest : List ℕ) → IsEntry e → entry_fits index offset before e ≡ true
+    → next_entry_at index offset before (entry_bytes e ++ rest) ≡ Ok (e, rest)
 unfolding next_entry_at
-next_entry_again index place before e rest is fits =
+next_entry_again index offset before e rest is fits =
     let bytes : List ℕ = entry_bytes e ++ rest in
-    ap (fitting_entry (length bytes) index place before) (entry_field.again e rest is) ∙ fitting_again (length bytes) index place before (e, rest) fits
+    ap (fitting_entry (length bytes) index offset before) (entry_field.again e rest is) ∙ fitting_again (length bytes) index offset before (e, rest) fits
 
-entries_again : (index place : ℕ) (before : Option (List ℕ)) (entries : List BlockEntry) → AllByRecursion IsEntry entries → in_order index place before entries ≡ true
-    → entries_at index (length entries) place before (flat_map entry_bytes entries) ≡ Ok entries
+entries_again : (index offset : ℕ) (before : Option (List ℕ)) (entries : List BlockEntry) → AllByRecursion IsEntry entries → in_order index offset before entries ≡ true
+    → entries_at index (length entries) offset before (flat_map entry_bytes entries) ≡ Ok entries
 unfolding entries_at
-entries_again index place before [] each follow = rw follow refl
-entries_again index place before (e ∷ entries) each follow =
+entries_again index offset before [] each follow = rw follow refl
+entries_again index offset before (e ∷ entries) each follow =
     let behind : List ℕ = flat_map entry_bytes entries in
-    let fits = and_parts (entry_fits index place before e) (in_order index (place + (e.size + 4)) (Some e.last) entries) follow in
-    let here : next_entry_at index place before (entry_bytes e ++ behind) ≡ Ok (e, behind) = next_entry_again index place before e behind each.0 fits.0 in
-    let rest = entries_again index (place + (e.size + 4)) (Some e.last) entries each.1 fits.1 in
+    let fits = and_parts (entry_fits index offset before e) (in_order index (offset + (e.size + 4)) (Some e.last) entries) follow in
+    let here : next_entry_at index offset before (entry_bytes e ++ behind) ≡ Ok (e, behind) = next_entry_again index offset before e behind each.0 fits.0 in
+    let rest = entries_again index (offset + (e.size + 4)) (Some e.last) entries each.1 fits.1 in
     rw here (rw rest refl)
 
 index_takes : (f : Footer) (bytes : List ℕ) (entries : List BlockEntry) → AreBytes bytes → entries_found f bytes ≡ Ok entries → IsIndexAt f bytes entries

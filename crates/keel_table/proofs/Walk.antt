@@ -138,16 +138,16 @@ abbrev Reader : Type 0
 Reader = List ℕ → Result (Option Row) Damage
 
 abbrev read_then : List ℕ → List ℕ → BlockEntry → Reader
-read_then key before e = λ bytes. and_then (checked_at e.place e.size bytes) (λ body. row_among key (rows_in before e body))
+read_then key before e = λ bytes. and_then (checked_at e.offset e.size bytes) (λ body. row_among key (rows_in before e body))
 
 abbrev found_then : List ℕ → List ℕ → BlockEntry → Reader
 found_then key before e = λ bytes. row_among key (block_found before e bytes)
 
 same_reader : (key before : List ℕ) (e : BlockEntry) → read_then key before e ≡ found_then key before e
 unfolding block_found
-same_reader key before e = λ i bytes. sym (among_then key (checked_at e.place e.size bytes) (rows_in before e)) i
+same_reader key before e = λ i bytes. sym (among_then key (checked_at e.offset e.size bytes) (rows_in before e)) i
 
 pub row_answers : (key before : List ℕ) (e : BlockEntry) (number : ℕ) (told : Option Told) (result : Result (Option Row) TableFault)
-    → Answers (λ (row : Option Row). row) (λ bytes. and_then (checked_at e.place e.size bytes) (λ body. row_among key (rows_in before e body))) number told result
+    → Answers (λ (row : Option Row). row) (λ bytes. and_then (checked_at e.offset e.size bytes) (λ body. row_among key (rows_in before e body))) number told result
     → Answers (λ (row : Option Row). row) (λ bytes. row_among key (block_found before e bytes)) number told result
 row_answers key before e number told result h = subst (λ (r : Reader). Answers (λ (row : Option Row). row) r number told result) (same_reader key before e) h

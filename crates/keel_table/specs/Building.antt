@@ -23,7 +23,7 @@ pub record IsBuilding (first last : ℕ) (rows : List Row) (given : List ℕ) (b
   pub open_is : b.open_rows ≡ rows_bytes rest
   pub key_is : b.last_key ≡ last_key [] rows
   pub index_is : b.index ≡ index_bytes closed
-  pub place_is : b.place ≡ length given
+  pub offset_is : b.offset ≡ length given
   pub blocks_is : b.blocks ≡ length closed
   pub rows_is : b.rows ≡ length rows
 
@@ -32,15 +32,15 @@ abbrev pub closed_by : List ℕ → List ℕ → ℕ → Builder → Builder
 closed_by bytes key rows b = record b {
   open_rows = [];
   last_key = key;
-  index = b.index ++ entry_bytes (record { place = b.place; size = length bytes; last = key });
-  place = b.place + (length bytes + 4);
+  index = b.index ++ entry_bytes (record { offset = b.offset; size = length bytes; last = key });
+  offset = b.offset + (length bytes + 4);
   blocks = b.blocks + 1;
   rows = rows;
 }
 
--- the footer behind an index with these entries of so many blocks, which end at that place
+-- the footer behind an index with these entries of so many blocks, which end at that offset
 abbrev pub footer_behind : List ℕ → ℕ → ℕ → Builder → Footer
-footer_behind index place blocks b = record { index = place; size = length index; blocks = blocks; rows = b.rows; first = b.first; last = b.last }
+footer_behind index offset blocks b = record { index = offset; size = length index; blocks = blocks; rows = b.rows; first = b.first; last = b.last }
 
 -- what a builder takes next has a key over this one; at the beginning it is the empty key
 abbrev pub key_before : Builder → List ℕ
@@ -48,7 +48,7 @@ key_before b = b.last_key
 
 -- how many bytes the pieces that were given have, checks included
 abbrev pub bytes_given : Builder → ℕ
-bytes_given b = b.place
+bytes_given b = b.offset
 
 -- how many pieces were given, a block each
 abbrev pub blocks_given : Builder → ℕ

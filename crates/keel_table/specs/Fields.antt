@@ -45,13 +45,13 @@ may_stand Equal left = true
 may_stand Greater left = false
 
 -- whether a key is over the one before and at most the last, and is the last where nothing is left behind
-abbrev pub has_place : List ℕ → List ℕ → List ℕ → ℕ → Bool
-has_place before last key left = key_lt before key && may_stand (key_cmp key last) left
+abbrev pub has_offset : List ℕ → List ℕ → List ℕ → ℕ → Bool
+has_offset before last key left = key_lt before key && may_stand (key_cmp key last) left
 
 -- what a row's reading gives; anything wrong is found where the row begins
 abbrev pub placed_row : ℕ → List ℕ → List ℕ → Read Row → Read Row
 placed_row left before last (Err at) = Err left
-placed_row left before last (Ok r) = if has_place before last r.0.key (length r.1) then Ok r else Err left
+placed_row left before last (Ok r) = if has_offset before last r.0.key (length r.1) then Ok r else Err left
 
 -- a row with a key behind the one before, up to the last
 unfoldable pub next_row_at : List ℕ → List ℕ → List ℕ → Read Row
@@ -70,9 +70,9 @@ all_rows_at before last bytes = rows_at (length bytes) before last bytes
 
 -- ---- the index
 
--- the entry of a place, a size and a key
+-- the entry of an offset, a size and a key
 abbrev pub make_entry : (ℕ × ℕ) × List ℕ → BlockEntry
-make_entry p = record { place = p.0.0; size = p.0.1; last = p.1 }
+make_entry p = record { offset = p.0.0; size = p.0.1; last = p.1 }
 
 -- an entry
 unfoldable pub entry_at : List ℕ → Read BlockEntry
@@ -83,25 +83,25 @@ abbrev pub is_over : Option (List ℕ) → List ℕ → Bool
 is_over None key = true
 is_over (Some before) key = key_lt before key
 
--- whether an entry is that of a block at this place, up to the index at most, with a key over the one before
+-- whether an entry is that of a block at this offset, up to the index at most, with a key over the one before
 abbrev pub entry_fits : ℕ → ℕ → Option (List ℕ) → BlockEntry → Bool
-entry_fits index place before e = (e.place == place) && (nat_le (place + (e.size + 4)) index && is_over before e.last)
+entry_fits index offset before e = (e.offset == offset) && (nat_le (offset + (e.size + 4)) index && is_over before e.last)
 
 -- what an entry's reading gives; anything wrong is found where the entry begins
 abbrev pub fitting_entry : ℕ → ℕ → ℕ → Option (List ℕ) → Read BlockEntry → Read BlockEntry
-fitting_entry left index place before (Err at) = Err left
-fitting_entry left index place before (Ok e) = if entry_fits index place before e.0 then Ok e else Err left
+fitting_entry left index offset before (Err at) = Err left
+fitting_entry left index offset before (Ok e) = if entry_fits index offset before e.0 then Ok e else Err left
 
--- an entry of the block at a place
+-- an entry of the block at an offset
 unfoldable pub next_entry_at : ℕ → ℕ → Option (List ℕ) → List ℕ → Read BlockEntry
-next_entry_at index place before bytes = fitting_entry (length bytes) index place before (entry_at bytes)
+next_entry_at index offset before bytes = fitting_entry (length bytes) index offset before (entry_at bytes)
 
--- so many entries of blocks that follow each other from a place up to the index, and nothing behind them
+-- so many entries of blocks that follow each other from an offset up to the index, and nothing behind them
 unfoldable pub entries_at : ℕ → ℕ → ℕ → Option (List ℕ) → List ℕ → Result (List BlockEntry) ℕ
-entries_at index zero place before bytes = if (length bytes == 0) && (place == index) then Ok [] else Err (length bytes)
-entries_at index (suc n) place before bytes = do
-  e ← next_entry_at index place before bytes
-  others ← entries_at index n (place + (e.0.size + 4)) (Some e.0.last) e.1
+entries_at index zero offset before bytes = if (length bytes == 0) && (offset == index) then Ok [] else Err (length bytes)
+entries_at index (suc n) offset before bytes = do
+  e ← next_entry_at index offset before bytes
+  others ← entries_at index n (offset + (e.0.size + 4)) (Some e.0.last) e.1
   Ok (e.0 ∷ others)
 
 -- ---- the footer
@@ -118,10 +118,10 @@ make_footer p = record { index = p.0.0.0.0.0; size = p.0.0.0.0.1; blocks = p.0.0
 unfoldable pub footer_at : List ℕ → Read Footer
 footer_at bytes = made make_footer (both (both (both (both (both (number_at w64) (number_at w32)) (number_at w32)) (number_at w64)) (number_at w64)) (number_at w64)) bytes
 
--- whether entries are those of blocks that follow each other from a place up to the index, with keys that rise
+-- whether entries are those of blocks that follow each other from an offset up to the index, with keys that rise
 abbrev pub in_order : ℕ → ℕ → Option (List ℕ) → List BlockEntry → Bool
-in_order index place before [] = place == index
-in_order index place before (e ∷ es) = entry_fits index place before e && in_order index (place + (e.size + 4)) (Some e.last) es
+in_order index offset before [] = offset == index
+in_order index offset before (e ∷ es) = entry_fits index offset before e && in_order index (offset + (e.size + 4)) (Some e.last) es
 
 -- the last key of entries, where there is one
 abbrev pub last_of : Option (List ℕ) → List BlockEntry → Option (List ℕ)

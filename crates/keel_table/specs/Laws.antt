@@ -36,7 +36,7 @@ TablesOpen = (first last : ℕ) (rows : List Row) (bytes : List ℕ) (table : Is
 
 -- the part of a file that an entry tells is these rows with their check, whose keys are over the one before and rise up to the entry's
 pub record IsBlockAt (before : List ℕ) (e : BlockEntry) (bytes : List ℕ) (rows : List Row) : Type 0 where
-  pub spelled : part_at e.place (e.size + 4) bytes ≡ block_bytes rows
+  pub spelled : part_at e.offset (e.size + 4) bytes ≡ block_bytes rows
   pub sized : length (rows_bytes rows) ≡ e.size
   pub some : 0 < length rows
   pub each : AllByRecursion IsRow rows

@@ -10,7 +10,7 @@ use Rattle.keel_table.specs.declared.index.Footer.{Footer}
 use Rattle.keel_table.specs.Spelling.{magic}
 use Rattle.keel_table.specs.Fields.{footer_at, entries_at, all_rows_at}
 
--- a stored check that isn't that of the bytes, or a place where the shape is wrong
+-- a stored check that isn't that of the bytes, or an offset where the shape is wrong
 pub data Damage : Type 0 where
   bad_check : ℕ → ℕ → Damage
   bad_shape : ℕ → Damage
@@ -20,11 +20,11 @@ abbrev pub and_then : {A B : Type 0} → Result A Damage → (A → Result B Dam
 and_then (Ok x) next = next x
 and_then (Err damage) next = Err damage
 
--- goes on where the test holds; else the shape is wrong at that place
+-- goes on where the test holds; else the shape is wrong at that offset
 abbrev pub needs : {A : Type 0} → Bool → ℕ → Result A Damage → Result A Damage
 needs test at next = if test then next else Err (bad_shape at)
 
--- what fields that end at a place give
+-- what fields that end at an offset give
 abbrev pub ending_at : {A : Type 0} → ℕ → Result A ℕ → Result A Damage
 ending_at end (Ok x) = Ok x
 ending_at end (Err left) = Err (bad_shape (end - left))
@@ -35,17 +35,17 @@ ending_at end (Err left) = Err (bad_shape (end - left))
 unfoldable pub compared : List ℕ → ℕ → Result (List ℕ) Damage
 compared body stored = if stored == mask (crc32c body) then Ok body else Err (bad_check stored (mask (crc32c body)))
 
--- so many bytes from a place on and the check behind them; where not all are there, the shape is wrong at that place
+-- so many bytes from an offset on and the check behind them; where not all are there, the shape is wrong at that offset
 unfoldable pub tested : ℕ → ℕ → List ℕ → Result (List ℕ) Damage
-tested place size part = if nat_lt (length part) (size + 4) then Err (bad_shape place) else compared (take size part) (from_le_bytes w32 (take 4 (drop size part)))
+tested offset size part = if nat_lt (length part) (size + 4) then Err (bad_shape offset) else compared (take size part) (from_le_bytes w32 (take 4 (drop size part)))
 
--- so many bytes of the file from a place on
+-- so many bytes of the file from an offset on
 abbrev pub part_at : ℕ → ℕ → List ℕ → List ℕ
-part_at place size bytes = take size (drop place bytes)
+part_at offset size bytes = take size (drop offset bytes)
 
 -- the same, with their check behind them
 abbrev pub checked_at : ℕ → ℕ → List ℕ → Result (List ℕ) Damage
-checked_at place size bytes = tested place size (part_at place (size + 4) bytes)
+checked_at offset size bytes = tested offset size (part_at offset (size + 4) bytes)
 
 -- ---- footer and index
 
@@ -85,11 +85,11 @@ opened size bytes =
 
 -- the rows in the bytes of a block, behind the last key of the entry before
 abbrev pub rows_in : List ℕ → BlockEntry → List ℕ → Result (List Row) Damage
-rows_in before e body = ending_at (e.place + e.size) (all_rows_at before e.last body)
+rows_in before e body = ending_at (e.offset + e.size) (all_rows_at before e.last body)
 
 -- the rows of the block of an entry
 unfoldable pub block_found : List ℕ → BlockEntry → List ℕ → Result (List Row) Damage
-block_found before e bytes = and_then (checked_at e.place e.size bytes) (rows_in before e)
+block_found before e bytes = and_then (checked_at e.offset e.size bytes) (rows_in before e)
 
 -- the row of a key, where there is one
 abbrev pub row_of : List ℕ → List Row → Option Row

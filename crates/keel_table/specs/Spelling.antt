@@ -84,22 +84,22 @@ blocks_bytes blocks = flat_map block_bytes blocks
 
 -- an entry: where the block begins, the length of its rows, its last key
 abbrev pub entry_bytes : BlockEntry → List ℕ
-entry_bytes e = number e.place ++ (count e.size ++ (count (length e.last) ++ e.last))
+entry_bytes e = number e.offset ++ (count e.size ++ (count (length e.last) ++ e.last))
 
 -- the numbers of an entry fit their fields
 pub record IsEntry (e : BlockEntry) : Type 0 where
-  pub place : e.place < 2 ^ 64
+  pub offset : e.offset < 2 ^ 64
   pub size : e.size < 2 ^ 32
   pub last : length e.last < 2 ^ 32
 
 -- the entry of a block
 abbrev pub entry_of : ℕ → List Row → BlockEntry
-entry_of place block = record { place = place; size = length (rows_bytes block); last = last_key [] block }
+entry_of offset block = record { offset = offset; size = length (rows_bytes block); last = last_key [] block }
 
--- the entries of blocks of which the first begins at that place
+-- the entries of blocks of which the first begins at that offset
 abbrev pub entries_from : ℕ → List (List Row) → List BlockEntry
-entries_from place [] = []
-entries_from place (block ∷ blocks) = entry_of place block ∷ entries_from (place + (length (rows_bytes block) + 4)) blocks
+entries_from offset [] = []
+entries_from offset (block ∷ blocks) = entry_of offset block ∷ entries_from (offset + (length (rows_bytes block) + 4)) blocks
 
 -- the entries of all blocks
 abbrev pub index_bytes : List (List Row) → List ℕ

@@ -27,7 +27,7 @@ fn asked_in(
     ensures differ { ChecksDiffer result }
 {
     // No block of an opened table ends so far behind.
-    let Some(end) = entry.place.checked_add(u64::from(entry.size)) else {
+    let Some(end) = entry.offset.checked_add(u64::from(entry.size)) else {
         return Err(TableFault::OutOfMemory);
     };
     match reading::rows_at(alloc, asked, before, entry.last.as_slice(), body) {
@@ -83,7 +83,7 @@ pub(crate) fn read_block<D: Disk>(
     ensures differ { ChecksDiffer result }
     ensures quiet { IsQuiet (D.seen disk.old) (fault_in result) (D.seen disk.new) }
 {
-    match read_checked(alloc, disk, number, entry.place, entry.size) {
+    match read_checked(alloc, disk, number, entry.offset, entry.size) {
         Ok(body) => rows_in(alloc, before, entry, body.as_slice()),
         Err(fault) => Err(fault),
     }
@@ -102,7 +102,7 @@ pub(crate) fn read_row<D: Disk>(
     ensures differ { ChecksDiffer result }
     ensures quiet { IsQuiet (D.seen disk.old) (fault_in result) (D.seen disk.new) }
 {
-    match read_checked(alloc, disk, number, entry.place, entry.size) {
+    match read_checked(alloc, disk, number, entry.offset, entry.size) {
         Ok(body) => row_in(alloc, key, before, entry, body.as_slice()),
         Err(fault) => Err(fault),
     }

@@ -52,7 +52,7 @@ pub struct Builder {
     /// The entries of the closed blocks.
     index: Bytes,
     /// The bytes of the closed blocks, which is where the open one begins.
-    place: u64,
+    offset: u64,
     /// How many blocks are closed.
     blocks: u32,
     /// How many rows were added.
@@ -78,7 +78,7 @@ pub struct FinishRefused {
 #[derive(Drop)]
 struct Closing {
     entry: Bytes,
-    place: u64,
+    offset: u64,
     blocks: u32,
 }
 
@@ -98,7 +98,7 @@ impl Builder {
             open_rows: Bytes::new(alloc),
             last_key: Bytes::new(alloc),
             index: Bytes::new(alloc),
-            place: 0,
+            offset: 0,
             blocks: 0,
             rows: 0,
         })
@@ -115,7 +115,7 @@ impl Builder {
     pub fn size(&self) -> u64
         ensures { result ≡ bytes_given self.now }
     {
-        self.place
+        self.offset
     }
 
     /// How many pieces `add` gave: a block each.
@@ -142,13 +142,13 @@ impl Builder {
     /// What closing a block of that many bytes of rows adds, whose last key is this.
     fn closing(&self, alloc: Global, size: u32, last: &[u8]) -> Result<Closing, OutOfMemory>
         requires { length last.now < 2 ^ 32 }
-        ensures entry { IfOk result (λ c. c.entry ≡ entry_bytes (record { place = self.now.place; size = size; last = last.now })) }
-        ensures place { IfOk result (λ c. c.place ≡ self.now.place + (size + 4)) }
+        ensures entry { IfOk result (λ c. c.entry ≡ entry_bytes (record { offset = self.now.offset; size = size; last = last.now })) }
+        ensures offset { IfOk result (λ c. c.offset ≡ self.now.offset + (size + 4)) }
         ensures blocks { IfOk result (λ c. c.blocks ≡ self.now.blocks + 1) }
     {
-        let entry = spelling::entry_bytes(alloc, self.place, size, last)?;
+        let entry = spelling::entry_bytes(alloc, self.offset, size, last)?;
         // A table of more bytes, blocks or entries than the footer can tell would not be held.
-        let Some(place) = self.place.checked_add(u64::from(size) + 4) else {
+        let Some(offset) = self.offset.checked_add(u64::from(size) + 4) else {
             return Err(OutOfMemory);
         };
         let Some(blocks) = self.blocks.checked_add(1) else {
@@ -159,7 +159,7 @@ impl Builder {
         }
         Ok(Closing {
             entry,
-            place,
+            offset,
             blocks,
         })
     }
@@ -196,7 +196,7 @@ impl Builder {
         self.index.extend(closing.entry.as_slice())?;
         self.open_rows.truncate(0);
         self.last_key = key;
-        self.place = closing.place;
+        self.offset = closing.offset;
         self.blocks = closing.blocks;
         self.rows = rows;
         Ok(piece)
@@ -227,19 +227,19 @@ impl Builder {
         Ok(Some(piece))
     }
 
-    /// The index with these entries of so many blocks, which end at that place, and the footer.
+    /// The index with these entries of so many blocks, which end at that offset, and the footer.
     fn end(
         &self,
         alloc: Global,
         index: &[u8],
-        place: u64,
+        offset: u64,
         blocks: u32,
     ) -> Result<Bytes, OutOfMemory>
-        ensures bytes { IfOk result (λ b. b ≡ checked index.now ++ footer_bytes (footer_behind index.now place blocks self.now)) }
-        ensures fits { OnOk result (FooterFits (footer_behind index.now place blocks self.now)) }
+        ensures bytes { IfOk result (λ b. b ≡ checked index.now ++ footer_bytes (footer_behind index.now offset blocks self.now)) }
+        ensures fits { OnOk result (FooterFits (footer_behind index.now offset blocks self.now)) }
     {
         let size = size_of(index)?;
-        let footer = footer(place, size, blocks, self.rows, self.first, self.last);
+        let footer = footer(offset, size, blocks, self.rows, self.first, self.last);
         spelling::end_bytes(alloc, index, &footer)
     }
 
@@ -252,7 +252,7 @@ impl Builder {
         ensures parts { IfOk result (λ pieces. pieces.block ≡ last_block (left_over self.now)) }
     {
         if self.open_rows.len() == 0 {
-            let end = self.end(alloc, self.index.as_slice(), self.place, self.blocks)?;
+            let end = self.end(alloc, self.index.as_slice(), self.offset, self.blocks)?;
             return Ok(Pieces { block: None, end });
         }
         let size = size_of(self.open_rows.as_slice())?;
@@ -262,7 +262,7 @@ impl Builder {
         index.extend(closing.entry.as_slice())?;
         let mut block = Bytes::from_slice(alloc, self.open_rows.as_slice())?;
         spelling::put_check(&mut block)?;
-        let end = self.end(alloc, index.as_slice(), closing.place, closing.blocks)?;
+        let end = self.end(alloc, index.as_slice(), closing.offset, closing.blocks)?;
         Ok(Pieces {
             block: Some(block),
             end,

@@ -35,15 +35,15 @@ fn compared(body: Bytes, stored: u32) -> Result<Bytes, TableFault>
     }
 }
 
-/// So many bytes of what begins at that place, with their check.
+/// So many bytes of what begins at that offset, with their check.
 #[tactic(auto, unfolding(crate::specs::Opening::tested))]
-pub(crate) fn tested(part: Bytes, place: u64, size: u32) -> Result<Bytes, TableFault>
-    ensures found { Finds (λ b. b) result (spec.tested place size part) }
+pub(crate) fn tested(part: Bytes, offset: u64, size: u32) -> Result<Bytes, TableFault>
+    ensures found { Finds (λ b. b) result (spec.tested offset size part) }
     ensures differ { ChecksDiffer result }
 {
     let size = size as usize;
     if part.len() < size + 4 {
-        return Err(TableFault::BadShape { at: place });
+        return Err(TableFault::BadShape { at: offset });
     }
     let stored = stored_behind(part.as_slice(), size);
     let mut body = part;
@@ -51,15 +51,15 @@ pub(crate) fn tested(part: Bytes, place: u64, size: u32) -> Result<Bytes, TableF
     compared(body, stored)
 }
 
-/// So many bytes of a table from a place on, with the check behind them, in one read.
+/// So many bytes of a table from an offset on, with the check behind them, in one read.
 pub(crate) fn read_checked<D: Disk>(
     alloc: Global,
     disk: &mut D,
     number: u64,
-    place: u64,
+    offset: u64,
     size: u32,
 ) -> Result<Bytes, TableFault>
-    ensures answer { Answers (λ b. b) (spec.checked_at place size) number (D.seen disk.old).told result }
+    ensures answer { Answers (λ b. b) (spec.checked_at offset size) number (D.seen disk.old).told result }
     ensures differ { ChecksDiffer result }
     ensures quiet { IsQuiet (D.seen disk.old) (fault_in result) (D.seen disk.new) }
 {
@@ -67,8 +67,8 @@ pub(crate) fn read_checked<D: Disk>(
     if u32::MAX - 4 < size {
         return Err(TableFault::OutOfMemory);
     }
-    match disk.read_at(alloc, FileName::Table(number), place, size + 4) {
-        Ok(part) => tested(part, place, size),
+    match disk.read_at(alloc, FileName::Table(number), offset, size + 4) {
+        Ok(part) => tested(part, offset, size),
         Err(ReadError::Fault(fault)) => Err(TableFault::Device(fault)),
         Err(ReadError::Absent) => Err(TableFault::Absent),
         Err(ReadError::OutOfMemory) => Err(TableFault::OutOfMemory),

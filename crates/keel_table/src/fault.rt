@@ -10,7 +10,7 @@ pub enum TableFault {
     Absent,
     /// The check that is stored behind some bytes isn't theirs. The two numbers differ.
     BadCheck { stored: u32, computed: u32 },
-    /// What is wrong begins at that place in the file, in bytes.
+    /// What is wrong begins at that offset in the file, in bytes.
     BadShape { at: u64 },
     /// Memory was refused.
     OutOfMemory,

@@ -12,14 +12,14 @@ use crate::opening::{LEAST_SIZE, entries_in, footer_of_size};
 use keel_base::{Bytes, Rows};
 use std::alloc::Global;
 
-/// So many bytes from a place on, as far as they are there.
-fn part_at(bytes: &[u8], place: u64, size: u64) -> &[u8]
-    ensures { result.now ≡ spec.part_at place size bytes.now }
+/// So many bytes from an offset on, as far as they are there.
+fn part_at(bytes: &[u8], offset: u64, size: u64) -> &[u8]
+    ensures { result.now ≡ spec.part_at offset size bytes.now }
 {
-    if bytes.len() as u64 <= place {
+    if bytes.len() as u64 <= offset {
         return b"";
     }
-    let (_, rest) = bytes.split_at(place as usize);
+    let (_, rest) = bytes.split_at(offset as usize);
     if rest.len() as u64 <= size {
         return rest;
     }
@@ -27,13 +27,13 @@ fn part_at(bytes: &[u8], place: u64, size: u64) -> &[u8]
     part
 }
 
-/// So many bytes from a place on, which have their check behind them.
-fn checked_at(alloc: Global, bytes: &[u8], place: u64, size: u32) -> Result<Bytes, TableFault>
-    ensures found { Finds (λ b. b) result (spec.checked_at place size bytes.now) }
+/// So many bytes from an offset on, which have their check behind them.
+fn checked_at(alloc: Global, bytes: &[u8], offset: u64, size: u32) -> Result<Bytes, TableFault>
+    ensures found { Finds (λ b. b) result (spec.checked_at offset size bytes.now) }
     ensures differ { ChecksDiffer result }
 {
-    let part = part_at(bytes, place, u64::from(size) + 4);
-    tested(Bytes::from_slice(alloc, part)?, place, size)
+    let part = part_at(bytes, offset, u64::from(size) + 4);
+    tested(Bytes::from_slice(alloc, part)?, offset, size)
 }
 
 /// The footer and the entries of the table that the bytes are, or what is wrong with them first: what `open_table`
@@ -67,6 +67,6 @@ pub fn block_in(
     ensures fit { IfOk result (FitEntry before.now entry.now) }
     ensures differ { ChecksDiffer result }
 {
-    let body = checked_at(alloc, bytes, entry.place, entry.size)?;
+    let body = checked_at(alloc, bytes, entry.offset, entry.size)?;
     rows_in(alloc, before, entry, body.as_slice())
 }

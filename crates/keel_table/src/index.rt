@@ -5,7 +5,7 @@ use keel_base::{Bytes, Sequence};
 #[derive(Debug, Drop)]
 pub struct BlockEntry {
     /// Where it begins in the file.
-    pub place: u64,
+    pub offset: u64,
     /// The bytes of its rows.
     pub size: u32,
     /// The key of its last row.

@@ -94,8 +94,8 @@ pub(crate) fn is_below(key: &[u8], other: &[u8]) -> bool
 }
 
 /// Whether a row of that key may stand here, with so many bytes left behind it.
-fn has_place(before: &[u8], last: &[u8], key: &[u8], left: usize) -> bool
-    ensures { result ≡ spec.has_place before.now last.now key.now left }
+fn has_offset(before: &[u8], last: &[u8], key: &[u8], left: usize) -> bool
+    ensures { result ≡ spec.has_offset before.now last.now key.now left }
 {
     if !is_below(before, key) {
         return false;
@@ -117,7 +117,7 @@ fn next_row_at<'a>(
 {
     match row_at(bytes) {
         Ok((row, rest)) => {
-            if has_place(before, last, row.key, rest.len()) {
+            if has_offset(before, last, row.key, rest.len()) {
                 Ok((row, rest))
             } else {
                 Err(FieldError::Bad { left: bytes.len() })
@@ -184,12 +184,12 @@ pub(crate) fn rows_at(
 fn entry_at(alloc: Global, bytes: &[u8]) -> Result<(BlockEntry, &[u8]), FieldError>
     ensures { Gives (λ x. (x.0, x.1.now)) result (spec.entry_at bytes.now) }
 {
-    let (place, rest) = u64_at(bytes)?;
+    let (offset, rest) = u64_at(bytes)?;
     let (size, rest) = u32_at(rest)?;
     let (length, rest) = u32_at(rest)?;
     let (last, rest) = bytes_at(rest, length as usize)?;
     let last = Bytes::from_slice(alloc, last)?;
-    Ok((BlockEntry { place, size, last }, rest))
+    Ok((BlockEntry { offset, size, last }, rest))
 }
 
 /// Whether a key is over those of the entries before.
@@ -203,20 +203,20 @@ fn is_over(entries: &[BlockEntry], key: &[u8]) -> bool
 }
 
 /// Whether a block with so many bytes of rows ends where the index begins, or before.
-fn ends_by(index: u64, place: u64, size: u32) -> bool
-    ensures { result ≡ nat_le (place + (size + 4)) index }
+fn ends_by(index: u64, offset: u64, size: u32) -> bool
+    ensures { result ≡ nat_le (offset + (size + 4)) index }
 {
-    place <= index && u64::from(size) + 4 <= index - place
+    offset <= index && u64::from(size) + 4 <= index - offset
 }
 
-/// Whether an entry is that of the next block, which begins at that place and ends before the index.
-fn entry_fits(index: u64, place: u64, entries: &[BlockEntry], entry: &BlockEntry) -> bool
-    ensures { result ≡ spec.entry_fits index place (spec.last_of None entries.now) entry.now }
+/// Whether an entry is that of the next block, which begins at that offset and ends before the index.
+fn entry_fits(index: u64, offset: u64, entries: &[BlockEntry], entry: &BlockEntry) -> bool
+    ensures { result ≡ spec.entry_fits index offset (spec.last_of None entries.now) entry.now }
 {
-    if entry.place != place {
+    if entry.offset != offset {
         return false;
     }
-    if !ends_by(index, place, entry.size) {
+    if !ends_by(index, offset, entry.size) {
         return false;
     }
     is_over(entries, entry.last.as_slice())
@@ -226,16 +226,16 @@ fn entry_fits(index: u64, place: u64, entries: &[BlockEntry], entry: &BlockEntry
 fn next_entry_at<'a>(
     alloc: Global,
     index: u64,
-    place: u64,
+    offset: u64,
     entries: &[BlockEntry],
     bytes: &'a [u8],
 ) -> Result<(BlockEntry, &'a [u8]), FieldError>
-    ensures entry { Gives (λ x. (x.0, x.1.now)) result (spec.next_entry_at index place (spec.last_of None entries.now) bytes.now) }
-    ensures within { IfOk result (λ x. place + (x.0.size + 4) ≤ index) }
+    ensures entry { Gives (λ x. (x.0, x.1.now)) result (spec.next_entry_at index offset (spec.last_of None entries.now) bytes.now) }
+    ensures within { IfOk result (λ x. offset + (x.0.size + 4) ≤ index) }
 {
     match entry_at(alloc, bytes) {
         Ok((entry, rest)) => {
-            if entry_fits(index, place, entries, &entry) {
+            if entry_fits(index, offset, entries, &entry) {
                 Ok((entry, rest))
             } else {
                 Err(FieldError::Bad { left: bytes.len() })
@@ -247,10 +247,10 @@ fn next_entry_at<'a>(
 }
 
 /// Whether nothing is left of the index, and the last block ends where it begins.
-fn is_at_end(rest: &[u8], place: u64, index: u64) -> bool
-    ensures { result ≡ ((length rest.now == 0) && (place == index)) }
+fn is_at_end(rest: &[u8], offset: u64, index: u64) -> bool
+    ensures { result ≡ ((length rest.now == 0) && (offset == index)) }
 {
-    rest.is_empty() && place == index
+    rest.is_empty() && offset == index
 }
 
 /// So many entries of blocks that follow each other up to the index, and nothing behind them.
@@ -263,15 +263,15 @@ pub(crate) fn entries_at(
     ensures { Gives (λ entries. entries) result (spec.entries_at index blocks 0 None bytes.now) }
 {
     let mut entries = BlockEntries::new(alloc);
-    let mut place = 0;
+    let mut offset = 0;
     let mut rest = bytes;
     for _ in 0..blocks {
-        let (entry, after) = next_entry_at(alloc, index, place, entries.as_slice(), rest)?;
-        place += u64::from(entry.size) + 4;
+        let (entry, after) = next_entry_at(alloc, index, offset, entries.as_slice(), rest)?;
+        offset += u64::from(entry.size) + 4;
         entries.push(entry)?;
         rest = after;
     }
-    if is_at_end(rest, place, index) {
+    if is_at_end(rest, offset, index) {
         Ok(entries)
     } else {
         Err(FieldError::Bad { left: rest.len() })

@@ -75,15 +75,15 @@ pub(crate) fn row_bytes(alloc: Global, row: &Row) -> Result<Bytes, OutOfMemory>
 /// The bytes of an index entry.
 pub(crate) fn entry_bytes(
     alloc: Global,
-    place: u64,
+    offset: u64,
     size: u32,
     last: &[u8],
 ) -> Result<Bytes, OutOfMemory>
     requires { length last.now < 2 ^ 32 }
-    ensures { IfOk result (λ b. b ≡ spec.entry_bytes (record { place = place; size = size; last = last.now })) }
+    ensures { IfOk result (λ b. b ≡ spec.entry_bytes (record { offset = offset; size = size; last = last.now })) }
 {
     let mut out = Bytes::new(alloc);
-    put_number(&mut out, place)?;
+    put_number(&mut out, offset)?;
     put_count(&mut out, size)?;
     put_count(&mut out, last.len() as u32)?;
     out.extend(last)?;

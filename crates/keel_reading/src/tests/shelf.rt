@@ -90,7 +90,7 @@ impl Disk for Shelf {
         &mut self,
         alloc: Global,
         name: FileName,
-        place: u64,
+        offset: u64,
         length: u32,
     ) -> Result<Bytes, ReadError> {
         let bytes = match (self.scene, name) {
@@ -99,7 +99,7 @@ impl Disk for Shelf {
             (Scene::Two(_, bytes), FileName::Log(1_000_000)) => bytes,
             _ => return Err(ReadError::Absent),
         };
-        let rest = bytes.get(place as usize..).unwrap_or(b"");
+        let rest = bytes.get(offset as usize..).unwrap_or(b"");
         let part = rest.get(..length as usize).unwrap_or(rest);
         Ok(Bytes::from_slice(alloc, part)?)
     }

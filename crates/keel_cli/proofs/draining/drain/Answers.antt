@@ -1,7 +1,7 @@
 use Rattle.std.proofs.Common.{None, refl, subst, ap, arith, Ok}
 use Rattle.keel_machine.specs.declared.steps.WriteStep.{WriteStep}
 use Rattle.keel_machine.specs.Turns.{Writing}
-use Rattle.keel_core.specs.Views.{Turns}
+use Rattle.keel_core.specs.Views.{TakesTurn}
 use Rattle.keel_cli.proofs.Moving.{moved_on, quiet_run, more_run, want_cut, step_told}
 use Rattle.keel_cli.proofs.draining.drain.Goals as goal
 
@@ -28,7 +28,7 @@ returns-in-Ok-false-clause-told g c =
 pub returns-in-Err-clause-cut : goal.returns-in-Err-clause-cut
 returns-in-Err-clause-cut g c =
     let step = c.write_step-step in
-    let want = subst (λ (made : WriteStep). Turns c.moving.core (Writing None made) step.new.self) (c.in-Err.ensures.cut refl) step.ensures.turn in
+    let want = subst (λ (made : WriteStep). TakesTurn c.moving.core (Writing None made) step.new.self) (c.in-Err.ensures.cut refl) step.ensures.turn in
     want_cut c.args.core.now c.moving.core step.new.self c.moving.made c.args.moves c.moving.invariant.goes want c.moving-test.true
 
 pub returns-in-Err-clause-told : goal.returns-in-Err-clause-told

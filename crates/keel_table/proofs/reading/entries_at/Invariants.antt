@@ -4,4 +4,4 @@ use Rattle.keel_table.proofs.Loops.{behind}
 use Rattle.keel_table.proofs.reading.entries_at.Given as goal
 
 abbrev pub invariant-loop : goal.invariant-loop
-invariant-loop l = (behind l.entries (entries_at l.index (l.blocks - l.counter) l.place (last_of None l.entries) l.rest) ≡ entries_at l.index l.blocks 0 None l.bytes) × (l.place ≤ l.index)
+invariant-loop l = (behind l.entries (entries_at l.index (l.blocks - l.counter) l.offset (last_of None l.entries) l.rest) ≡ entries_at l.index l.blocks 0 None l.bytes) × (l.offset ≤ l.index)

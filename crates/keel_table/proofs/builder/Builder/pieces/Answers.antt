@@ -11,7 +11,7 @@ returns-then-len-eq0-clause-table c = λ first last rows given h. (returns-then-
 
 pub returns-clause-blocks : goal.returns-clause-blocks
 returns-clause-blocks c = λ first last rows given h.
-    ends_open first last rows given c.args.self.now c.put_check.new.out c.in_ok-closing.closing.entry c.extend.new.self c.in_ok-end-2.end c.in_ok-closing.closing.place _ h
+    ends_open first last rows given c.args.self.now c.put_check.new.out c.in_ok-closing.closing.entry c.extend.new.self c.in_ok-end-2.end c.in_ok-closing.closing.offset _ h
     (search rules) (search rules) (search rules) (search rules) (search rules) c.in_ok-closing.ensures.blocks (search rules) (search rules)
 
 pub returns-clause-table : goal.returns-clause-table
