@@ -3,16 +3,8 @@ ghost use Rattle.std.specs.Prelude.{◌≡◌, ◌≤◌, not, nat_lt, None, len
 ghost use Rattle.keel_machine.specs.Admission.{is_key_length, op_refusal as refusal_of_op, ops_refusal as refusal_of_ops, size_refusal as refusal_of_size};
 ghost use Rattle.keel_machine.specs.Tests.{when};
 
-use keel_base::{Batch, Op, ops_weight};
+use keel_base::{Batch, GREATEST_WEIGHT, LONGEST_KEY, LONGEST_VALUE, MOST_OPS, Op, ops_weight};
 use keel_machine::{Admit, Part};
-
-const LONGEST_KEY: usize = 1024;
-
-const LONGEST_VALUE: usize = 65_536;
-
-const MOST_OPS: usize = 1000;
-
-const GREATEST_WEIGHT: u64 = 1_048_576;
 
 /// Why a batch isn't taken in for its size: of its ops in order, their count and their weight the first that is
 /// outside its limits.

@@ -15,16 +15,13 @@ use crate::queue::Queue;
 use crate::scanning::rows_between;
 use crate::sizes::size_refusal;
 use crate::trail::Trail;
-use keel_base::{Batch, Bytes, Counter, Fault, Kind, Listing, OutOfMemory};
+use keel_base::{Batch, Bytes, Counter, Fault, Kind, LAST_NUMBER, Listing, OutOfMemory};
 use keel_disk::{Device, Disk, DiskError, Rule};
 use keel_group::MAX_WAITING;
 use keel_machine::{Admit, Got, Outcome, Scanned};
 use keel_mem::Mem;
 use std::alloc::Global;
 use std::marker::Model;
-
-/// The greatest sequence and ticket number, and what job and file numbers that are drawn stay below or reach.
-pub(crate) const LAST_NUMBER: u64 = 1 << 56;
 
 /// An open store over a device.
 #[derive(Drop)]
