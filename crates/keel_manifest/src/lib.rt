@@ -2,9 +2,10 @@
 //!
 //! - `read_current` reads which manifest CURRENT names.
 //! - `Manifest` is the manifest in use. `edit_append` and `edit_sync` make an edit firm with one call of the device each.
-//!   `doubts` lists what a crash may leave: at which manifest CURRENT is, and with how many of its edits.
+//!   `doubts` lists what the answers so far leave open: at which manifest CURRENT may be after a crash, and with how many
+//!   of its edits.
 //! - `Roll` is the way to a new manifest with one edit, in eight calls, one a step: `Manifest::roll_step` makes the next.
-//!   Only behind the last is the new manifest in use; until then a crash leaves the old one or the new one.
+//!   From the rename on the new manifest is in doubt beside the old one, and after the last call it alone is in use.
 //! - `JobMove`, `Ahead`, `Made` and `NextFile` are what the jobs of a store share: what a step answers, what the next call
 //!   draws, which files a job has made, and the number of the next file.
 //!
