@@ -1,7 +1,7 @@
 use keel_base::{Call, Fault, FileName};
 use keel_disk::{Disk, DiskError};
 use keel_simdisk::SimDisk;
-use keel_wal::{Log, LogProgress, Rotated};
+use keel_wal::{Log, LogProgress, ReplayError, Rotated, replay};
 use std::alloc::Global;
 use std::test::Fail;
 
@@ -64,5 +64,47 @@ fn a_failed_append_ends_a_log(rt: HostRuntime) -> Result<(), Fail> {
     let answer = log.append_group(alloc, &mut disk, &GROUP);
     assert!(rt; answer == Err(DiskError::Fault(Fault::Plain)));
     assert!(rt; log.progress() == LogProgress::Failed);
+    Ok(())
+}
+
+/// The record of a batch, which puts `a` to `1` as op 1.
+const PUT_1: &[u8] =
+    b"\xe9\x9f\x78\x19\x11\x00\x01\x01\x00\x00\x00\x00\x00\x00\x00\x01\x00\x00\x00\x01\x01a\x011";
+
+/// The same for `b` and `2` as op 2.
+const PUT_2: &[u8] =
+    b"\x8f\x72\xbc\x7a\x11\x00\x01\x02\x00\x00\x00\x00\x00\x00\x00\x01\x00\x00\x00\x01\x01b\x012";
+
+/// A record with the byte 0, which is no batch.
+const ZERO: &[u8] = b"\x5f\xb0\xce\x81\x01\x00\x01\x00";
+
+/// A device with the logs 1 and 3, which have these bytes, and the empty log 2.
+fn with_logs(alloc: Global, first: &[u8], last: &[u8]) -> Option<SimDisk> {
+    let mut disk = with_log(alloc)?;
+    disk.append(alloc, FileName::Log(1), first).ok()?;
+    disk.create(alloc, FileName::Log(2)).ok()?;
+    disk.create(alloc, FileName::Log(3)).ok()?;
+    disk.append(alloc, FileName::Log(3), last).ok()?;
+    Some(disk)
+}
+
+#[test]
+fn logs_are_replayed_in_order(rt: HostRuntime) -> Result<(), Fail> {
+    let alloc = rt.alloc();
+    let mut disk = with_logs(alloc, PUT_1, PUT_2).ok_or("memory")?;
+    let read = replay(alloc, &mut disk, 1, 0).ok().ok_or("a refusal")?;
+    assert_eq!(rt; read.batches.len(), 2);
+    assert_eq!(rt; read.last_seq, 2);
+    assert!(rt; read.logs.as_slice() == [1u64, 2, 3].as_slice());
+    Ok(())
+}
+
+/// A bad log comes before the gap of an earlier one.
+#[test]
+fn a_bad_log_is_refused(rt: HostRuntime) -> Result<(), Fail> {
+    let alloc = rt.alloc();
+    let mut disk = with_logs(alloc, PUT_2, ZERO).ok_or("memory")?;
+    let answer = replay(alloc, &mut disk, 1, 0).err();
+    assert!(rt; answer == Some(ReplayError::BadLog { log: 3, at: 0 }));
     Ok(())
 }

@@ -29,6 +29,7 @@ mod tables;
 
 pub use answer::{Damaged, Directory, DirectoryRefusal, Held, Pairs};
 pub use files::File;
+pub use logs::{LogFile, Replayed, replay_logs};
 pub use reading::read_directory;
 
 #[cfg(test)]

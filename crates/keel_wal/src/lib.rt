@@ -8,5 +8,7 @@
 #![tactic(auto)]
 
 mod log;
+mod reading;
 
 pub use log::{Log, LogProgress, Rotated};
+pub use reading::{ReplayError, Replayed, replay};
