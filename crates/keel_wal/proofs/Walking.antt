@@ -1,8 +1,8 @@
 -- The logs of a directory, one after the other.
-use Rattle.std.proofs.Common.{◌≡◌, ℕ, ◌+◌, ◌-◌, ◌^◌, ◌<◌, ◌≤◌, ◌||◌, Bool, true, false, cond, eqb, ltb, List, [], ◌∷◌, ◌++◌, Option, Some, None, unwrap_or, option_map, refl, sym, ap, subst, ◌∙◌, inl, inr, arith}
+use Rattle.std.proofs.Common.{◌≡◌, ℕ, ◌+◌, ◌^◌, ◌<◌, ◌≤◌, ◌||◌, Bool, true, false, cond, eqb, ltb, List, [], ◌∷◌, ◌++◌, Option, Some, None, unwrap_or, option_map, refl, sym, ap, subst, ◌∙◌, inl, inr, arith}
 use Rattle.std.specs.Prelude.{not, ◌&&◌, is_some}
 use Rattle.std.specs.List.{AllByRecursion}
-use Rattle.std.proofs.lemmas.Bool.{cases_order, cases_lt, ltb-true, ltb-false, eq-eqb, ne_eqb, eqb-true}
+use Rattle.std.proofs.lemmas.Bool.{cases_order, cases_lt, ltb-true, ltb-false, eq-eqb, ne_eqb}
 use Rattle.std.proofs.lemmas.List.{append-nil}
 use Rattle.keel_base.specs.declared.file_name.FileName.TheVariants.{Log}
 use Rattle.keel_base.specs.declared.listing.Entry.{Entry}
@@ -123,9 +123,9 @@ unlisted told listing n orderly tells h =
     elim (cases_lt n 1) [
       | inl low ↦ log_absent told n orderly (λ is. omega (arith, low, is.least))
       | inr above ↦ elim (cases_lt (2 ^ 56) n) [
-          | inl high ↦ log_absent told n orderly (λ is. omega (arith, high, is.most))
-          | inr below ↦ h (omega (arith, above)) (omega (arith, below))
-        ]
+        | inl high ↦ log_absent told n orderly (λ is. omega (arith, high, is.most))
+        | inr below ↦ h (omega (arith, above)) (omega (arith, below))
+      ]
     ]
 
 none_listed : (told : Told) (listing : List Entry) (n : ℕ) → IsOrderly told → TellsListing (Some told) listing
@@ -143,19 +143,19 @@ next_to told listing min least log bytes files numbers orderly tells order next 
   rise = rise_with files log.number bytes h.rise below;
   below = below_with files log.number bytes below;
   found = λ n low high. elim (cases_order n log.number) [
-      | inl e ↦ subst (λ (k : ℕ). log_of k (files ++ file_of log.number bytes) ≡ some_bytes (find (Log k) image)) (sym e)
-          (log_of-append log.number files (file_of log.number bytes) (none_below log.number files below) ∙ file_here log.number bytes ∙ sym (ap some_bytes there))
-      | inr (inl lt) ↦ log_of-front n files (file_of log.number bytes) (file_other n log.number bytes (λ e. omega (arith, e, lt))) ∙ earlier n low lt
-      | inr (inr gt) ↦ absurd (omega (arith, gt, high))
-    ];
+    | inl e ↦ subst (λ (k : ℕ). log_of k (files ++ file_of log.number bytes) ≡ some_bytes (find (Log k) image)) (sym e)
+        (log_of-append log.number files (file_of log.number bytes) (none_below log.number files below) ∙ file_here log.number bytes ∙ sym (ap some_bytes there))
+    | inr (inl lt) ↦ log_of-front n files (file_of log.number bytes) (file_other n log.number bytes (λ e. omega (arith, e, lt))) ∙ earlier n low lt
+    | inr (inr gt) ↦ absurd (omega (arith, gt, high))
+  ];
   none = λ n lt. log_of-front n files (file_of log.number bytes) (file_other n log.number bytes (λ e. omega (arith, e, lt, h.above, next.above))) ∙ h.none n lt;
   rise_numbers = numbers_rise_more log.number numbers h.rise_numbers below_number;
   below_numbers = numbers_below_end (log.number + 1) log.number numbers (numbers_below_more log.number (log.number + 1) numbers (omega arith) below_number) (omega arith);
   listed = λ n low high. elim (cases_order n log.number) [
-      | inl e ↦ has_last n log.number numbers (eq-eqb log.number n (sym e)) ∙ sym (ap is_some (subst (λ (k : ℕ). find (Log k) image ≡ Some bytes) (sym e) there))
-      | inr (inl lt) ↦ has_front n log.number numbers (ne_eqb log.number n (λ e. omega (arith, e, lt))) ∙ earlier_listed n low lt
-      | inr (inr gt) ↦ absurd (omega (arith, gt, high))
-    ];
+    | inl e ↦ has_last n log.number numbers (eq-eqb log.number n (sym e)) ∙ sym (ap is_some (subst (λ (k : ℕ). find (Log k) image ≡ Some bytes) (sym e) there))
+    | inr (inl lt) ↦ has_front n log.number numbers (ne_eqb log.number n (λ e. omega (arith, e, lt))) ∙ earlier_listed n low lt
+    | inr (inr gt) ↦ absurd (omega (arith, gt, high))
+  ];
   not_listed = λ n lt. has_front n log.number numbers (ne_eqb log.number n (λ e. omega (arith, e, lt, h.above, next.above))) ∙ h.not_listed n lt;
 }
   where

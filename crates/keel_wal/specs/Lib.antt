@@ -1,3 +1,4 @@
 pub mod Logs
 pub mod Refusals
 pub mod Replays
+pub mod Laws

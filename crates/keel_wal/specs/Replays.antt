@@ -1,5 +1,5 @@
 -- The logs that a device has, and what they give.
-use Rattle.std.specs.Prelude.{◌≡◌, ℕ, ◌+◌, ◌<◌, Bool, true, false, not, nat_lt, ◌&&◌, ◌||◌, ◌==◌, is_some, List, [], ◌∷◌, Option, Some, None, Result, Ok, Err}
+use Rattle.std.specs.Prelude.{◌≡◌, ℕ, ◌<◌, Bool, false, not, nat_lt, ◌&&◌, ◌||◌, ◌==◌, is_some, List, [], ◌∷◌, Option, Some, None, Result, Ok, Err}
 use Rattle.std.specs.List.{AllByRecursion}
 use Rattle.keel_base.specs.declared.failure.Fault.{Fault}
 use Rattle.keel_base.specs.declared.file_name.FileName.TheVariants as name
@@ -9,8 +9,8 @@ use Rattle.keel_disk.specs.Plain.{image_read}
 use Rattle.keel_disk.specs.Told.{Told}
 use Rattle.keel_directory.specs.declared.logs.LogFile.{LogFile}
 use Rattle.keel_directory.specs.Laws.{AreNamedOnce}
-use Rattle.keel_directory.specs.Refusals.{Refusal, bad_log, log_gap}
-use Rattle.keel_directory.specs.Replays.{Replay, LogsAre, logs_from}
+use Rattle.keel_directory.specs.Refusals.{bad_log, log_gap}
+use Rattle.keel_directory.specs.Replays.{Replay, LogsAre, logs_from, run_on}
 use Rattle.keel_reading.specs.Answers.{AreNames}
 use Rattle.keel_wal.specs.declared.reading.Replayed.{Replayed}
 use Rattle.keel_wal.specs.declared.reading.ReplayError.{ReplayError}
@@ -70,3 +70,7 @@ AnswersFor image least last _ = Unit {0}
 abbrev pub ReplayAnswers : Option Told → ℕ → ℕ → Result Replayed ReplayError → Type 0
 ReplayAnswers None least last answer = Unit {0}
 ReplayAnswers (Some told) least last answer = IsOrderly told → AnswersFor (image_read told.state) least last answer
+
+-- each batch begins with the number behind the one before, from the number given to the last one
+abbrev pub RunsOn : ℕ → Replayed → Type 0
+RunsOn last found = run_on last found.batches.items ≡ Ok found.last_seq

@@ -6,7 +6,7 @@ ghost use Rattle.keel_disk.specs.Seen.{IsQuiet};
 ghost use Rattle.keel_disk.specs.Told.{TellsListing};
 ghost use Rattle.keel_directory.specs.Answers.{IsOfLogs};
 ghost use Rattle.keel_wal.specs.Refusals.{refusal_for, error_for};
-ghost use Rattle.keel_wal.specs.Replays.{file_of, LogsTold, ReplayAnswers, fault_in};
+ghost use Rattle.keel_wal.specs.Replays.{file_of, LogsTold, ReplayAnswers, RunsOn, fault_in};
 
 use keel_base::{Bytes, Fault, FileName, Listing, OutOfMemory};
 use keel_directory::{DirectoryRefusal, LogFile, Replayed as LogBatch, replay_logs};
@@ -151,6 +151,8 @@ pub fn replay<D: Disk>(
     requires { last_seq ≤ 2 ^ 56 }
     // What logs and bytes give each answer, where the device tells its directory.
     ensures answers { ReplayAnswers (D.seen disk.old).told min_log last_seq result }
+    // Batches that are found run on, whatever the device tells.
+    ensures runs_on { IfOk result (RunsOn last_seq) }
     // Device comes only where the device counted that fault, as the last one.
     ensures quiet { IsQuiet (D.seen disk.old) (fault_in result) (D.seen disk.new) }
 {

@@ -34,7 +34,7 @@ logs-preserved g c =
     let read = c.in_ok-bytes.ensures in
     let holds : IsContent (Log c.in-Some.log.number) told c.in_ok-bytes.bytes = rw h.1.same at read.bytes in (
       next_read told c.args.listing.now c.args.min_log c.logs.least c.in-Some.log c.in_ok-bytes.bytes c.logs.logs.files.items c.add.new.self.files.items c.logs.logs.numbers.items c.add.new.self.numbers.items
-      c.requires.tells c.requires.order next holds c.in_ok-add.ensures.files c.in_ok-add.ensures.numbers h.0,
+          c.requires.tells c.requires.order next holds c.in_ok-add.ensures.files c.in_ok-add.ensures.numbers h.0,
       quiet_behind (D.seen c.args.disk.now) (D.seen c.logs.disk) (D.seen c.read_file.new.disk) None h.1 read.quiet,
     )
 
