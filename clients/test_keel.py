@@ -10,7 +10,7 @@ import sys
 import tempfile
 import unittest
 
-from keel import BadReply, BadSize, Ended, Keel, NotOpen, QueueFull, Refused, TooLong, decode, encode
+from keel import BadReply, BadSize, Ended, Failed, Keel, NotOpen, QueueFull, Refused, Stopped, TooLong, decode, encode
 
 PROGRAM = "keel"
 SEED = 20481
@@ -128,6 +128,45 @@ class OpeningTest(FolderTest):
         for reply in ("what", "opened", "opened -1", "opened 01", ""):
             with self.assertRaises(BadReply):
                 Keel(self.path, self.program_that_answers(reply))
+
+
+class FailureTest(FolderTest):
+    """The host lets no file grow past a small size, so that an append of a long record fails."""
+
+    LONG = b"x" * 2000
+
+    def program_with_small_files(self):
+        path = os.path.join(self.path, "small")
+        with open(path, "w", encoding="utf-8") as file:
+            file.write(f"#!/bin/sh\ntrap '' XFSZ\nulimit -f 1\nexec '{PROGRAM}' \"$@\"\n")
+        os.chmod(path, 0o700)
+        return path
+
+    def open_small(self):
+        folder = os.path.join(self.path, "store")
+        os.makedirs(folder, exist_ok=True)
+        return Keel(folder, self.program_with_small_files())
+
+    def test_writes_stop(self):
+        with self.open_small() as store:
+            store.put(b"a", b"1")
+            with self.assertRaises(Failed) as told:
+                store.put(b"b", self.LONG)
+            self.assertEqual(told.exception.words, "failed wal plain")
+            with self.assertRaises(Stopped):
+                store.put(b"c", b"3")
+            with self.assertRaises(Stopped):
+                store.write([(b"c", b"3")])
+            self.assertEqual(store.scan(), [(b"a", b"1")])
+        with self.open_small() as store:
+            self.assertEqual(store.get(b"a"), b"1")
+            self.assertEqual(store.put(b"c", b"3"), 2)
+
+    def test_several_fail(self):
+        with self.open_small() as store:
+            with self.assertRaises(Failed):
+                store.write([(b"a", b"1"), (b"b", self.LONG)])
+            self.assertEqual(store.scan(), [])
 
 
 class KillTest(FolderTest):
