@@ -1,2 +1,6 @@
 pub mod Naming
 pub mod Edits
+pub mod Using
+pub mod Damages
+pub mod Choosing
+pub mod Refusing

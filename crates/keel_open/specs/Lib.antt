@@ -1,2 +1,4 @@
 pub mod Refusals
 pub mod Manifests
+pub mod Listed
+pub mod TableAnswers
