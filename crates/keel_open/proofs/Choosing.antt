@@ -1,5 +1,5 @@
 -- The damaged table of the least number, chosen table by table.
-use Rattle.std.proofs.Common.{◌≡◌, ℕ, suc, ◌+◌, ◌<◌, Bool, true, false, cond, ltb, List, [], ◌∷◌, length, drop, get_or, Option, Some, None, Result, Ok, Err, refl, sym, ap, subst, ◌∙◌}
+use Rattle.std.proofs.Common.{◌≡◌, ℕ, Bool, true, false, cond, ltb, List, ◌∷◌, Option, Some, None, Ok, Err, refl, sym, ap, subst, ◌∙◌}
 use Rattle.std.specs.Prelude.{is_some}
 use Rattle.keel_disk.specs.Directory.{Named}
 use Rattle.keel_disk.specs.Plain.{image_read}
@@ -7,12 +7,10 @@ use Rattle.keel_disk.specs.Told.{Told}
 use Rattle.keel_edit.specs.declared.edit.Added.{Added}
 use Rattle.keel_table.specs.declared.fault.TableFault.{TableFault}
 use Rattle.keel_table.specs.declared.fault.TableFault.TheVariants as fault
-use Rattle.keel_table.specs.Opening.{Damage}
 use Rattle.keel_directory.specs.TableFiles.{lesser, least}
 use Rattle.keel_open.specs.declared.refusal.OpenRefusal.{OpenRefusal}
 use Rattle.keel_open.specs.declared.tables.DamagedTable.{DamagedTable}
-use Rattle.keel_open.specs.Refusals.{Damages}
-use Rattle.keel_open.specs.TableAnswers.{damage_read, is_damaged, DamageIs, DamageTells, IsLeastDamaged, LeastDamaged, ChosenTells, DamagedTell, is_below, with_damage}
+use Rattle.keel_open.specs.TableAnswers.{damage_read, is_damaged, DamageIs, DamageTells, LeastDamaged, ChosenTells, DamagedTell, is_below, with_damage}
 
 -- where a table isn't damaged the choice stays
 undamaged : (image : Named (List ℕ)) (t : Added) (rest : List Added) → damage_read image t ≡ None → least (is_damaged image) (t ∷ rest) ≡ least (is_damaged image) rest

@@ -4,7 +4,6 @@ use Rattle.std.proofs.lemmas.Bool.{cases_lt, eq-eqb, ne_eqb, lt-leb}
 use Rattle.keel_base.specs.declared.file_name.FileName.TheVariants.{Table as TableName}
 use Rattle.keel_base.specs.declared.listing.Entry.{Entry}
 use Rattle.keel_base.specs.Name.{IsName}
-use Rattle.keel_disk.specs.Directory.{find}
 use Rattle.keel_disk.specs.Listings.{size_listed}
 use Rattle.keel_disk.specs.Plain.{image_read}
 use Rattle.keel_disk.specs.State.{file_at, file_of}
@@ -19,7 +18,7 @@ use Rattle.keel_table.specs.Answers.{Answers, Causes}
 use Rattle.keel_table.specs.Opening.{Damage, bad_check, bad_shape, Opened, opened}
 use Rattle.keel_table.specs.Tables.{shown}
 use Rattle.keel_directory.specs.TableFiles.{open_sized, damage_of, damage_in}
-use Rattle.keel_open.specs.TableAnswers.{damage_read, DamageIs, DamageAnswers, DamageTells, damage_told}
+use Rattle.keel_open.specs.TableAnswers.{damage_read, DamageAnswers, DamageTells, damage_told}
 
 -- a file that has another size
 wrong_size : (size : ℕ) (bytes : List ℕ) → (length bytes ≡ size → ⊥) → damage_of (open_sized size bytes) ≡ Some (bad_shape 0)

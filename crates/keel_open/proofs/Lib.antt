@@ -4,3 +4,5 @@ pub mod Using
 pub mod Damages
 pub mod Choosing
 pub mod Refusing
+pub mod Numbering
+pub mod Basing

@@ -1,6 +1,6 @@
 -- Why the tables of a version aren't read.
-use Rattle.std.proofs.Common.{◌≡◌, ℕ, Bool, cond, List, [], ◌∷◌, length, Option, Some, None, Result, Ok, Err, option_map, refl, sym, ap, subst, ◌∙◌}
-use Rattle.std.specs.Prelude.{All, is_none, is_some}
+use Rattle.std.proofs.Common.{◌≡◌, ℕ, Bool, cond, List, [], ◌∷◌, length, Option, Some, None, Ok, Err, option_map, refl, sym, ap, ◌∙◌}
+use Rattle.std.specs.Prelude.{All, is_none}
 use Rattle.std.proofs.lemmas.List.Elements.{All-head, All-tail}
 use Rattle.keel_base.specs.declared.file_name.FileName.TheVariants.{Table as TableName}
 use Rattle.keel_base.specs.declared.listing.Entry.{Entry}
@@ -11,14 +11,11 @@ use Rattle.keel_disk.specs.Told.{bytes_of as told_bytes}
 use Rattle.keel_edit.specs.declared.edit.Added.{Added}
 use Rattle.keel_edit.specs.Spelling.{IsAdded}
 use Rattle.keel_reading.proofs.Standing.{image_has}
-use Rattle.keel_table.specs.Opening.{Damage}
-use Rattle.keel_table.specs.declared.fault.TableFault.{TableFault}
-use Rattle.keel_directory.specs.Refusals.{Refusal, missing_table, bad_table}
+use Rattle.keel_directory.specs.Refusals.{missing_table, bad_table}
 use Rattle.keel_directory.specs.TableFiles.{bytes_of, damage_refused, lesser, least, refused_for_damage, refused_for_missing, refusal_of}
 use Rattle.keel_open.specs.declared.refusal.OpenRefusal.{OpenRefusal}
 use Rattle.keel_open.specs.declared.refusal.OpenRefusal.TheVariants as refusal
 use Rattle.keel_open.specs.declared.tables.DamagedTable.{DamagedTable}
-use Rattle.keel_open.specs.Refusals.{Damages, Names}
 use Rattle.keel_open.specs.TableAnswers.{is_unlisted, number_found, damage_read, is_damaged, DamagedTell, TablesTell}
 use Rattle.keel_open.proofs.Naming.{damages_map, names_map}
 

@@ -1,5 +1,5 @@
 -- The first file in use, in a listing and in the directory that it lists.
-use Rattle.std.proofs.Common.{◌≡◌, ℕ, suc, ◌<◌, Bool, true, false, cond, List, [], ◌∷◌, length, Option, Some, None, option_map, refl, sym, ap, subst, ◌∙◌, inl, inr, arith, if◌then◌else◌}
+use Rattle.std.proofs.Common.{◌≡◌, ℕ, suc, Bool, true, false, cond, List, [], ◌∷◌, length, Option, Some, None, option_map, refl, sym, ap, subst, ◌∙◌, inl, inr, arith, if◌then◌else◌}
 use Rattle.std.specs.Prelude.{All, AllPairs, IsTrue, MatchOption}
 use Rattle.std.specs.Prelude.{find as first_where}
 use Rattle.std.specs.List.{AllByRecursion}

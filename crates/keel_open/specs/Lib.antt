@@ -2,3 +2,5 @@ pub mod Refusals
 pub mod Manifests
 pub mod Listed
 pub mod TableAnswers
+pub mod NextFiles
+pub mod Bases

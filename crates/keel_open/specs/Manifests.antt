@@ -1,10 +1,9 @@
 -- What CURRENT and its manifest answer.
-use Rattle.std.specs.Prelude.{◌≡◌, ℕ, List, [], length, Option, Some, None, Result, Ok, Err, nat_le}
+use Rattle.std.specs.Prelude.{◌≡◌, ℕ, List, length, Option, Some, None, Result, Ok, Err}
 use Rattle.keel_base.specs.declared.file_name.FileName.TheVariants.{Current, Manifest}
 use Rattle.keel_disk.specs.Told.{Told, bytes_of}
 use Rattle.keel_frag.specs.declared.record.LogRecord.{LogRecord}
 use Rattle.keel_frag.specs.Reading.{AreRecords}
-use Rattle.keel_directory.specs.Refusals.{Refusal}
 use Rattle.keel_directory.specs.Manifests.{CurrentIs, ManifestIs, version_of}
 use Rattle.keel_open.specs.declared.refusal.OpenRefusal.{OpenRefusal}
 use Rattle.keel_open.specs.declared.manifest.EditsFound.{EditsFound}

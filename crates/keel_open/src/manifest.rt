@@ -42,11 +42,7 @@ pub(crate) fn current_manifest<D: Disk>(
 }
 
 /// The version behind a record, which has to be an edit that applies.
-fn behind_record(
-    alloc: Global,
-    version: Version,
-    found: &LogRecord,
-) -> Result<Version, OpenRefusal>
+fn behind_record(alloc: Global, version: Version, found: &LogRecord) -> Result<Version, OpenRefusal>
     ensures none { fault_in result ≡ None }
     ensures answers { Answers (λ next. next) (λ answer. answer ≡ spec.next_version found.now.offset (spec.behind_edit version (edit_of found.now.payload)) (λ next. Ok next)) result }
 {

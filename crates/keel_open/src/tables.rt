@@ -43,13 +43,7 @@ fn lesser(number: u64, found: Option<u64>) -> u64
 {
     match found {
         None => number,
-        Some(other) => {
-            if other < number {
-                other
-            } else {
-                number
-            }
-        }
+        Some(other) => { if other < number { other } else { number } }
     }
 }
 
