@@ -27,7 +27,7 @@ use Rattle.keel_open.proofs.Using.{first_of_listing}
 abbrev Refuses : Named (List ℕ) → OpenRefusal → Type 0
 Refuses image e = Names e (λ refusal. IsReading image (refused refusal))
 
-refused_by : (image : Named (List ℕ)) (current : List ℕ) (r : Refusal) → find Current image ≡ Some current → FoundBy image current (Err r) → IsReading image (refused r)
+pub refused_by : (image : Named (List ℕ)) (current : List ℕ) (r : Refusal) → find Current image ≡ Some current → FoundBy image current (Err r) → IsReading image (refused r)
 unfolding IsReading
 refused_by image current r there found = subst (λ (bytes : Option (List ℕ)). WithCurrent image bytes (refused r)) (sym there) (Err r, found, refl)
 

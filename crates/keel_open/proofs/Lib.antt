@@ -6,3 +6,4 @@ pub mod Choosing
 pub mod Refusing
 pub mod Numbering
 pub mod Basing
+pub mod Joining

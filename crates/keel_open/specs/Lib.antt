@@ -4,3 +4,4 @@ pub mod Listed
 pub mod TableAnswers
 pub mod NextFiles
 pub mod Bases
+pub mod Laws
