@@ -9,4 +9,6 @@ mod deletions;
 #[cfg(test)]
 mod engine;
 #[cfg(test)]
+mod logs;
+#[cfg(test)]
 mod manifests;

@@ -1,5 +1,5 @@
 -- What the program that reads a directory answers.
-use Rattle.std.specs.Prelude.{◌≡◌, ℕ, ◌+◌, Bool, true, nat_le, List, Option, Some, None, Result, Ok, Err, if◌then◌else◌}
+use Rattle.std.specs.Prelude.{◌≡◌, ℕ, ◌+◌, ◌<◌, ◌^◌, Bool, true, nat_le, List, Option, Some, None, Result, Ok, Err, if◌then◌else◌}
 use Rattle.std.specs.List.{flat_map}
 use Rattle.std.specs.FinMap.{entries, get}
 use Rattle.keel_base.specs.declared.row.Row.{Row}
@@ -35,6 +35,13 @@ Names (errors.BadTable number damage) Holds = Holds (bad_table number (damage_na
 Names (errors.BadLog log at) Holds = Holds (bad_log log at)
 Names (errors.LogGap log last found) Holds = Holds (log_gap log (last + 1) found)
 Names errors.OutOfMemory Holds = Unit {0}
+
+-- why logs aren't read; the number before a gap is far below 2 ^ 64
+abbrev pub IsOfLogs : DirectoryRefusal → Type 0
+IsOfLogs (errors.BadLog log at) = Unit {0}
+IsOfLogs (errors.LogGap log last found) = last < 2 ^ 63
+IsOfLogs errors.OutOfMemory = Unit {0}
+IsOfLogs _ = ⊥
 
 -- of what was answered, seen by view, this holds, unless memory ran out
 abbrev pub Answers : {A B : Type 0} → (A → B) → (Result B Refusal → Type 0) → Result A DirectoryRefusal → Type 0

@@ -89,9 +89,13 @@ replay last logs = do
   end ← run_on last batches
   Ok (record { batches = batches; last = end })
 
--- what the logs from a number on give, where the last op before them has that number
+-- what logs give, in this order, where the last op before them has that number
+abbrev pub LogsGive : List LogFile → ℕ → Result Replay Refusal → Type 0
+LogsGive files last answer = (logs : List ReadLog) × AreRead files logs × (answer ≡ replay last logs)
+
+-- what the logs from a number on give
 abbrev pub LogsAre : Named (List ℕ) → ℕ → ℕ → Result Replay Refusal → Type 0
-LogsAre image least last answer = (logs : List ReadLog) × AreRead (logs_from least image) logs × (answer ≡ replay last logs)
+LogsAre image least last answer = LogsGive (logs_from least image) last answer
 
 abbrev pub replayed_rows : List Replayed → List Row
 replayed_rows batches = flat_map (λ b. op_rows b.seq b.ops) batches

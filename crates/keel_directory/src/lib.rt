@@ -2,6 +2,7 @@
 //!
 //! - `read_directory` reads a directory whose files are in memory. It is plain and slow, and its answer is the reading
 //!   that is defined here (`Reads` of `specs/Answers`): what faster reading is measured against.
+//! - `replay_logs` is what logs that are in memory give: their batches, or the refusal (`LogsGive` of `specs/Replays`).
 //! - `laws`: a directory has one reading, which needs few of its files; what a settled device stands for; and that the
 //!   logs, the table and the file that a reading picks out are the right ones.
 //!
@@ -29,6 +30,7 @@ mod tables;
 
 pub use answer::{Damaged, Directory, DirectoryRefusal, Held, Pairs};
 pub use files::File;
+pub use logs::{LogFile, Replayed, replay_logs};
 pub use reading::read_directory;
 
 #[cfg(test)]

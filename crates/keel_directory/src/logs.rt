@@ -4,7 +4,7 @@ ghost use Rattle.std.specs.List.{AllByRecursion, prefix_len};
 ghost use Rattle.keel_base.specs.Rows.{op_row, op_rows};
 ghost use Rattle.keel_batch.specs.Reading.{batch_of};
 ghost use Rattle.keel_directory.specs.declared.logs.Replayed.{Replayed as ABatch};
-ghost use Rattle.keel_directory.specs.Answers.{Answers, Names};
+ghost use Rattle.keel_directory.specs.Answers.{Answers, Names, IsOfLogs};
 ghost use Rattle.keel_directory.specs.Replays as spec;
 ghost use Rattle.keel_directory.specs.Replays.{ReadLog};
 
@@ -98,6 +98,7 @@ fn logs_from(alloc: Global, least: u64, files: &[File]) -> Result<Vec<LogFile>, 
 fn batch_in(alloc: Global, log: u64, found: &LogRecord) -> Result<Replayed, DirectoryRefusal>
     ensures batch { Answers (λ batch. batch) (λ answer. answer ≡ spec.batch_found log found.now (batch_of found.now.payload)) result }
     ensures numbered { IfOk result spec.IsNumbered }
+    ensures of_logs { IfErr result IsOfLogs }
 {
     match decode(alloc, found.payload.as_slice()) {
         Ok(batch) => Ok(Replayed {
@@ -123,6 +124,7 @@ fn add_records(
     ensures ok { OnOk result ((found : List ABatch) × (spec.batches_of log records.now ≡ Ok found) × (batches.new.items ≡ batches.old.items ++ found)) }
     ensures err { IfErr result (λ e. Names e (λ refusal. spec.batches_of log records.now ≡ Err refusal)) }
     ensures numbered { OnOk result (AllByRecursion spec.IsNumbered batches.old.items → AllByRecursion spec.IsNumbered batches.new.items) }
+    ensures of_logs { IfErr result IsOfLogs }
 {
     match records {
         [] => Ok(()),
@@ -142,6 +144,7 @@ fn add_logs(
     ensures ok { OnOk result ((read : List ReadLog) × spec.AreRead logs.now read × (found : List ABatch) × (spec.all_batches read ≡ Ok found) × (batches.new.items ≡ batches.old.items ++ found)) }
     ensures err { IfErr result (λ e. Names e (λ refusal. (read : List ReadLog) × spec.AreRead logs.now read × (spec.all_batches read ≡ Err refusal))) }
     ensures numbered { OnOk result (AllByRecursion spec.IsNumbered batches.old.items → AllByRecursion spec.IsNumbered batches.new.items) }
+    ensures of_logs { IfErr result IsOfLogs }
 {
     match logs {
         [] => Ok(()),
@@ -158,7 +161,8 @@ fn add_logs(
 /// The number of the last op, where each batch begins behind the one before.
 fn last_number(last: u64, batches: &[Replayed]) -> Result<u64, DirectoryRefusal>
     requires { AllByRecursion spec.IsNumbered batches.now }
-    ensures { Answers (λ end. end) (λ answer. answer ≡ spec.run_on last batches.now) result }
+    ensures answer { Answers (λ end. end) (λ answer. answer ≡ spec.run_on last batches.now) result }
+    ensures of_logs { last < 2 ^ 63 → IfErr result IsOfLogs }
 {
     match batches {
         [] => Ok(last),
@@ -175,6 +179,22 @@ fn last_number(last: u64, batches: &[Replayed]) -> Result<u64, DirectoryRefusal>
     }
 }
 
+/// What logs give, in this order, where the last op before them has the number `last`.
+pub fn replay_logs(
+    alloc: Global,
+    logs: &[LogFile],
+    last: u64,
+) -> Result<(Vec<Replayed>, u64), DirectoryRefusal>
+    ensures answer { Answers (λ x. record { batches = x.0.items; last = x.1 }) (spec.LogsGive logs.now last) result }
+    ensures numbered { IfOk result (λ x. AllByRecursion spec.IsNumbered x.0.items) }
+    ensures of_logs { last < 2 ^ 63 → IfErr result IsOfLogs }
+{
+    let mut batches = Vec::new(alloc);
+    add_logs(alloc, logs, &mut batches)?;
+    let last = last_number(last, batches.as_slice())?;
+    Ok((batches, last))
+}
+
 /// What the logs from a number on give, where the last op before them has the number `last`.
 pub(crate) fn replay(
     alloc: Global,
@@ -186,10 +206,7 @@ pub(crate) fn replay(
     ensures numbered { IfOk result (λ x. AllByRecursion spec.IsNumbered x.0.items) }
 {
     let logs = logs_from(alloc, least, files)?;
-    let mut batches = Vec::new(alloc);
-    add_logs(alloc, logs.as_slice(), &mut batches)?;
-    let last = last_number(last, batches.as_slice())?;
-    Ok((batches, last))
+    replay_logs(alloc, logs.as_slice(), last)
 }
 
 /// The row that an op of that number leaves.

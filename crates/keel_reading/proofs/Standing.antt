@@ -63,7 +63,7 @@ all_below bound files (entry ∷ rest) directory within names each =
     (each entry.0 here.0 names.0 here.1, all_below bound files rest directory (λ name h. within name (inr h)) names.1 each)
 
 -- no name of a directory is one that isn't a name of the store
-not_named : (number : ℕ) (directory : Named ℕ) → AreNames directory → (IsName (Log number) → ⊥) → find (Log number) directory ≡ None
+pub not_named : (number : ℕ) (directory : Named ℕ) → AreNames directory → (IsName (Log number) → ⊥) → find (Log number) directory ≡ None
 not_named number [] h other = refl
 not_named number (entry ∷ rest) h other =
     let later = not_named number rest h.1 other in
@@ -74,14 +74,14 @@ not_named number (entry ∷ rest) h other =
 
 -- ---- the listing, where the device tells it
 
-listed_none : (told : Told) (listing : List Entry) → TellsListing (Some told) listing → (name : FileName) → IsName name → size_listed name listing ≡ None → find name (image_read told.state) ≡ None
+pub listed_none : (told : Told) (listing : List Entry) → TellsListing (Some told) listing → (name : FileName) → IsName name → size_listed name listing ≡ None → find name (image_read told.state) ≡ None
 listed_none told listing tells name is e = image_has told name ∙ absent (bytes_of name told) (sym (tells name is) ∙ e)
   where
     absent : (bytes : Option (List ℕ)) → option_map length bytes ≡ None → bytes ≡ None
     absent None e = refl
     absent (Some bytes) e = absurd cc
 
-listed_some : (told : Told) (listing : List Entry) → TellsListing (Some told) listing → (name : FileName) → IsName name → (size : ℕ) → size_listed name listing ≡ Some size
+pub listed_some : (told : Told) (listing : List Entry) → TellsListing (Some told) listing → (name : FileName) → IsName name → (size : ℕ) → size_listed name listing ≡ Some size
     → (bytes : List ℕ) × (find name (image_read told.state) ≡ Some bytes)
 listed_some told listing tells name is size e =
     let h = there (bytes_of name told) (sym (tells name is) ∙ e) in

@@ -7,9 +7,9 @@ use keel_base::{Entry, FileName};
 
 /// A log, with its size in bytes.
 #[derive(Clone, Copy)]
-pub(crate) struct ListedLog {
-    pub(crate) number: u64,
-    pub(crate) size: u64,
+pub struct ListedLog {
+    pub number: u64,
+    pub size: u64,
 }
 
 /// The first file that isn't a log.
@@ -51,7 +51,7 @@ fn nearer(least: u64, chosen: Option<ListedLog>, entry: Entry) -> Option<ListedL
 
 /// The log with the least number from one on. Listings go by the printed names, where `1000000.log` stands before
 /// `999999.log`, so their order is not that of the numbers.
-pub(crate) fn next_log(listing: &[Entry], least: u64) -> Option<ListedLog>
+pub fn next_log(listing: &[Entry], least: u64) -> Option<ListedLog>
     ensures { IsNextIn listing.now least result }
 {
     let mut chosen = None;

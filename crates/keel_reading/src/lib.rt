@@ -3,6 +3,7 @@
 //!
 //! - `read_logs` reads a device and changes nothing there. Where the device tells its state, the answer's cause is
 //!   that of the bytes: `ReadAnswers` of `specs/Answers`.
+//! - `next_log` is the log with the least number of a listing from one on.
 //! - `OpenRefusal` says why a directory isn't read. A file that isn't a log comes before every bad log, and a bad log
 //!   of any number before every gap.
 //! - `laws`: a directory has one reading.
@@ -20,6 +21,7 @@ mod opening;
 mod refusal;
 mod replay;
 
+pub use directory::{ListedLog, next_log};
 pub use opening::read_logs;
 pub use refusal::OpenRefusal;
 pub use replay::FoundLogs;

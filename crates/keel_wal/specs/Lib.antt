@@ -1,0 +1,4 @@
+pub mod Logs
+pub mod Refusals
+pub mod Replays
+pub mod Laws
