@@ -7,3 +7,4 @@ pub mod Refusing
 pub mod Numbering
 pub mod Basing
 pub mod Joining
+pub mod Storing

@@ -5,3 +5,4 @@ pub mod TableAnswers
 pub mod NextFiles
 pub mod Bases
 pub mod Laws
+pub mod Stores
