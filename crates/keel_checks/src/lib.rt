@@ -12,3 +12,5 @@ mod engine;
 mod logs;
 #[cfg(test)]
 mod manifests;
+#[cfg(test)]
+mod openings;
