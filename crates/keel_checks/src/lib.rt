@@ -1,4 +1,4 @@
-//! Tests that stand on several layers: the engine, the deleter and the manifest over the device in memory.
+//! Tests that stand on several layers: the engine, the deleter, the manifest and the boot over the device in memory.
 //!
 //! It gives nothing to other crates. The layers' own tests need no device, so that a change of the device in memory
 //! proves the program and these tests again, and no layer between.
@@ -14,3 +14,5 @@ mod logs;
 mod manifests;
 #[cfg(test)]
 mod openings;
+#[cfg(test)]
+mod resume;

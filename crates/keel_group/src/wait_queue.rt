@@ -135,6 +135,14 @@ impl WaitQueue {
         Ok(formed)
     }
 
+    /// The batches that wait, in their order.
+    pub fn batches(&self) -> &[Batch]
+        ensures batches { result.now ≡ batches_of self.now.items }
+        ensures each { EachIsAdmissible result.now }
+    {
+        self.batches.as_slice()
+    }
+
     /// The tickets of the batches that wait, in their order.
     pub fn tickets(&self) -> &[u64]
         ensures { result.now ≡ tickets_of self.now.items }

@@ -1,0 +1,69 @@
+// The answers of the calls that aren't steps.
+use keel_base::{Bytes, Counter, Failure, Rows};
+use keel_table::TableFault;
+
+/// Whether a batch is taken in. Only a queued batch changes anything.
+#[derive(Clone, Copy, Debug)]
+pub enum Admit {
+    /// Its outcome is kept under this ticket.
+    Queued { ticket: u64 },
+    /// This part of the batch has a length, a count or a weight outside the limits.
+    BadSize { part: Part, length: u64 },
+    /// The boot of this opening hasn't cleared.
+    Booting,
+    /// This failure stands, and nothing is written any more.
+    Stopped(Failure),
+    /// This counter would pass its end.
+    Spent(Counter),
+    /// The active segment is full, and as many others as may be are: it weighs so many bytes, and the others are so many.
+    Full { active: u64, immutables: u32 },
+    /// So many batches wait already.
+    QueueFull { waiting: u32 },
+    OutOfMemory,
+}
+
+/// What of a batch is outside its limits.
+#[derive(Clone, Copy, Debug)]
+pub enum Part {
+    /// A key's length in bytes isn't 1 to 1024.
+    Key,
+    /// A value has more than 65,536 bytes.
+    Value,
+    /// The batch hasn't 1 to 1000 ops, or its weight is over 1,048,576.
+    Batch,
+}
+
+/// What became of a batch that was queued.
+#[derive(Clone, Copy, Debug)]
+pub enum Outcome {
+    /// It waits, or its group is in flight.
+    Waiting,
+    /// It is published, and its last op has this sequence number.
+    Done { seq: u64 },
+    /// A call of its group failed. A later opening may still show it.
+    Failed(Failure),
+    /// This failure stood before its group was formed.
+    Turned(Failure),
+    /// The ticket was never given, or its outcome was taken.
+    Unknown,
+}
+
+/// What a key has.
+#[derive(Debug, Drop)]
+pub enum Got {
+    Value(Bytes),
+    Absent,
+    /// The table of this number wasn't read.
+    ReadFault { number: u64, fault: TableFault },
+    OutOfMemory,
+}
+
+/// What keys in a range have.
+#[derive(Debug, Drop)]
+pub enum Scanned {
+    /// The puts that count, by key.
+    Rows(Rows),
+    /// The table of this number wasn't read.
+    ReadFault { number: u64, fault: TableFault },
+    OutOfMemory,
+}

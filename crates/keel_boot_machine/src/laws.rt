@@ -1,0 +1,48 @@
+// Facts of the machine, each as the contract of a function.
+ghost use Rattle.keel_boot_machine.specs.Laws.{FailureStops, FullQueueStops, LogFailureStops, OneCallAStep};
+ghost use Rattle.keel_boot_machine.specs.WorkedRows.{FirstBoot, FirstPut, FullQueue, FullSegment, SecondPut};
+
+/// A write step makes one changing call of the device at most.
+pub fn one_call_a_step()
+    ensures { OneCallAStep }
+{}
+
+/// While an error stands that stops writes, no batch is queued.
+pub fn failure_stops()
+    ensures { FailureStops }
+{}
+
+/// Every failure of a log stops writes, whatever failed before it.
+pub fn log_failure_stops()
+    ensures { LogFailureStops }
+{}
+
+/// While 64 batches wait, no further one is queued.
+pub fn full_queue_stops()
+    ensures { FullQueueStops }
+{}
+
+/// The calls of the boot of an empty directory.
+pub fn first_boot()
+    ensures { FirstBoot }
+{}
+
+/// The calls of the first put.
+pub fn first_put()
+    ensures { FirstPut }
+{}
+
+/// The calls of a second put.
+pub fn second_put()
+    ensures { SecondPut }
+{}
+
+/// The calls of a full queue, which is one group.
+pub fn full_queue()
+    ensures { FullQueue }
+{}
+
+/// The calls of a put behind a full segment, and that the store is full then.
+pub fn full_segment()
+    ensures { FullSegment }
+{}

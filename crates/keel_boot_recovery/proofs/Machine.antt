@@ -1,0 +1,149 @@
+-- Every turn of the machine keeps its device covered.
+use Rattle.std.proofs.Common.{◌≡◌, ℕ, Bool, false, List, [], Option, Some, None, Ok, Err, refl, sym, ap, subst}
+use Rattle.keel_base.specs.declared.options.Options.{Options}
+use Rattle.keel_base.specs.Points.{Point}
+use Rattle.keel_disk.specs.Plain.{image_read}
+use Rattle.keel_disk.specs.Seen.{Seen}
+use Rattle.keel_disk.specs.Sound.{IsAtRest}
+use Rattle.keel_disk.specs.State.{State as Disk, has_waiting_cut}
+use Rattle.keel_disk.specs.Told.{Told}
+use Rattle.keel_directory.specs.Reading.{Reading, IsReading, HasPoint, new, held, refused}
+use Rattle.keel_directory.specs.Sound.{IsSoundReading}
+use Rattle.keel_directory.specs.Standing.{ReadsAs}
+use Rattle.keel_directory.proofs.OneReading.{reading_one}
+use Rattle.keel_boot_machine.specs.Admission.{without_outcome}
+use Rattle.keel_boot_machine.specs.Opening.{Found, IsFoundIn, IsFoundBy, goes_on_from, OpenAnswers, story_opened, opened}
+use Rattle.keel_boot_machine.specs.States.{State, Footing, Known, Unknown, Phase, Shut, Booting, Open, Leaving, Nothing, Crashed, Left, Story, is_open, is_left, new_story, with_device}
+use Rattle.keel_boot_machine.specs.Turns.{Event, Opening, Admitting, Writing, Resuming, TakingOutcome, Getting, Scanning, Listing, Crashing, Finishing, Answers, after}
+use Rattle.keel_boot_machine.specs.Reads.{IsReadFault, GetAnswers, ScanAnswers}
+use Rattle.keel_boot_machine.specs.declared.answers.Got.{Got}
+use Rattle.keel_boot_machine.specs.declared.answers.Got.TheVariants as got
+use Rattle.keel_boot_machine.specs.declared.answers.Scanned.{Scanned}
+use Rattle.keel_boot_machine.specs.declared.answers.Scanned.TheVariants as scanned
+use Rattle.keel_table.specs.declared.fault.TableFault.{TableFault}
+use Rattle.keel_table.specs.declared.fault.TableFault.TheVariants as fault
+use Rattle.keel_open.specs.Listed.{IsDirectory}
+use Rattle.keel_open.proofs.Joining.{sound_is_directory}
+use Rattle.keel_boot_recovery.specs.BootLaws.{IsAfterCrash}
+use Rattle.keel_boot_recovery.specs.BootTurns.{BootCallKeeps}
+use Rattle.keel_boot_recovery.specs.Machine.{MayCall, IsSoundIfRead, IsLeft, KeptShut, KeptBy, IsCoveredBy, IsCovered, OpeningBoots, TurnKeeps}
+use Rattle.keel_boot_recovery.specs.Standing.{Stands}
+use Rattle.keel_boot_recovery.proofs.Covered.{same_keeps, as_it_is, same_boot}
+use Rattle.keel_boot_recovery.proofs.Crashing.{crash_keeps}
+use Rattle.keel_boot_recovery.proofs.Resting.{first_stands}
+use Rattle.keel_boot_recovery.proofs.ResumeTurns.{resume_keeps}
+use Rattle.keel_boot_recovery.proofs.WriteTurns.{write_keeps, admit_keeps}
+
+-- ---- an opening
+
+pub directory_at_rest : (state : Disk) → IsAtRest state → IsDirectory state
+directory_at_rest state rest = sound_is_directory state rest.sound.one_to_one
+
+-- a reading with a point is none that is refused
+sound_of : (reading : Reading) (point : Point) → HasPoint reading point → IsSoundIfRead reading → IsSoundReading reading
+sound_of new point has sound = tt
+sound_of (held found at) point has sound = sound
+sound_of (refused refusal) point has sound = absurd has
+
+-- what is found of a device at rest is a sound reading of it
+found_reads : (told : Told) (found : Found) → IsAtRest told.state → ((reading : Reading) → IsReading (image_read told.state) reading → IsSoundIfRead reading) → IsFoundIn told found → ReadsAs (image_read told.state) found.point
+found_reads told found rest sound h = record {
+  reading = h.reading;
+  is_read = h.is_read;
+  sound = sound_of h.reading found.point h.has (sound h.reading h.is_read);
+  has = h.has;
+}
+
+-- a device that was left has one reading, which is sound
+left_sound : (state : Disk) (story : Story) → IsLeft state story → (reading : Reading) → IsReading (image_read state) reading → IsSoundIfRead reading
+left_sound state story h reading is =
+    let now = h.stands.now.1 in
+    subst IsSoundIfRead (reading_one (image_read state) now.reading reading now.is_read is) (if_read now.reading now.sound)
+  where
+    if_read : (r : Reading) → IsSoundReading r → IsSoundIfRead r
+    if_read new sound = tt
+    if_read (held found at) sound = sound
+    if_read (refused refusal) sound = absurd sound
+
+-- what an opening begins with, or goes on with
+record Begins (state : Disk) (story : Story) : Type 0 where
+  rest : IsAtRest state
+  after : IsAfterCrash story
+  stands : Stands state story
+
+begins_new : (told : Told) (found : Found) → IsAtRest told.state → ((reading : Reading) → IsReading (image_read told.state) reading → IsSoundIfRead reading) → IsFoundIn told found → Begins told.state (new_story found.point)
+begins_new told found rest sound h = record {
+  rest = rest;
+  after = record { none_in_limbo = refl; all_stay = refl };
+  stands = first_stands told.state found.point rest (found_reads told found rest sound h);
+}
+
+begins : (leaving : Leaving) (footing : Footing) (told : Told) (found : Found) (s : State) → footing ≡ Known → (IsDirectory told.state → IsFoundIn told found) → KeptShut (is_left leaving) told.state s
+    → Begins told.state (story_opened (goes_on_from leaving footing) found.point s.story)
+begins leaving Unknown told found s known finds h = cc
+begins Nothing Known told found s known finds h = begins_new told found h.at_rest h.sound (finds (directory_at_rest told.state h.at_rest))
+begins Crashed Known told found s known finds h = record { rest = h.at_rest; after = h.after_crash; stands = h.stands }
+begins Left Known told found s known finds h = begins_new told found h.at_rest (left_sound told.state s.story h) (finds (directory_at_rest told.state h.at_rest))
+
+shut_kept : (phase : Phase) (left : Bool) (state : Disk) (s : State) → is_open phase ≡ false → KeptBy phase left state s → KeptShut left state s
+shut_kept Shut left state s shut h = h
+shut_kept Booting left state s shut h = cc
+shut_kept Open left state s shut h = cc
+
+opens_by : OpeningBoots → (f : Footing) (o : Option Told) (s : State) (options : Options) (found : Found) (device : Seen) → f ≡ s.footing → o ≡ s.device.told → is_open s.mode.phase ≡ false → OpenAnswers s (Ok found) device
+    → IsCoveredBy f s.mode o s → IsCoveredBy f (record s.mode { phase = Booting }) o (with_device device (opened options found s))
+opens_by boots Unknown o s options found device footing told shut a h = tt
+opens_by boots Known None s options found device footing told shut a h = h
+opens_by boots Known (Some told) s options found device footing is shut a h =
+    let known : s.footing ≡ Known = sym footing in
+    let finds : IsDirectory told.state → IsFoundIn told found = subst (λ (o : Option Told). IsFoundBy o found) (sym is) a.finds.read in
+    let b = begins s.mode.left s.footing told found s known finds (shut_kept s.mode.phase (is_left s.mode.left) told.state s shut h) in
+    let kept = boots s options found device told (sym is) a b.rest b.after b.stands in
+    record {
+      one_to_one = b.rest.sound.one_to_one;
+      cuts = λ file above. ap (has_waiting_cut file) b.rest.settled.none_waits;
+      kept = same_boot told.state (opened options found s) device [] kept;
+    }
+
+open_keeps : OpeningBoots → (s : State) (options : Options) (found : Found) (device : Seen) → is_open s.mode.phase ≡ false → OpenAnswers s (Ok found) device → IsCovered s → IsCovered (with_device device (opened options found s))
+open_keeps boots s options found device shut a h =
+    subst (λ (o : Option Told). IsCoveredBy s.footing (record s.mode { phase = Booting }) o (with_device device (opened options found s))) (sym a.quiet.same)
+    (opens_by boots s.footing s.device.told s options found device refl refl shut a h)
+
+-- ---- reads
+
+fault_quiet : (s : State) (cause : TableFault) (device : Seen) → IsReadFault s cause device → device.told ≡ s.device.told
+fault_quiet s (fault.Device cause) device h = h.same
+fault_quiet s fault.Absent device h = h.1.same
+fault_quiet s (fault.BadCheck stored computed) device h = h.1.same
+fault_quiet s (fault.BadShape at) device h = h.1.same
+fault_quiet s fault.OutOfMemory device h = absurd h
+
+pub got_quiet : (s : State) (key : List ℕ) (answer : Got) (device : Seen) → GetAnswers s key answer device → device.told ≡ s.device.told
+got_quiet s key (got.Value value) device a = a.1.same
+got_quiet s key got.Absent device a = a.1.same
+got_quiet s key (got.ReadFault number cause) device a = fault_quiet s cause device a
+got_quiet s key got.OutOfMemory device a = a.same
+
+pub scan_quiet : (s : State) (from to : List ℕ) (answer : Scanned) (device : Seen) → ScanAnswers s from to answer device → device.told ≡ s.device.told
+scan_quiet s from to (scanned.Rows rows) device a = a.1.same
+scan_quiet s from to (scanned.ReadFault number cause) device a = fault_quiet s cause device a
+scan_quiet s from to scanned.OutOfMemory device a = a.same
+
+-- ---- every turn
+
+answer_keeps : OpeningBoots → BootCallKeeps → (s : State) (event : Event) (device : Seen) → MayCall s event → Answers s event device → IsCovered s → IsCovered (after s event device)
+answer_keeps opens boots s (Opening options (Ok found)) device may a h = open_keeps opens s options found device may a h
+answer_keeps opens boots s (Opening options (Err refused_by)) device may a h = as_it_is s device a.quiet.same h
+answer_keeps opens boots s (Admitting batch answer) device may a h = admit_keeps s batch answer device a.0 (ap (λ (d : Seen). d.told) a.1) h
+answer_keeps opens boots s (Writing job answer) device may a h = write_keeps s job answer device may a h
+answer_keeps opens boots s (Resuming drafts job answer) device may a h = resume_keeps boots s drafts job answer device may a h
+answer_keeps opens boots s (TakingOutcome ticket outcome) device may a h = same_keeps s device (without_outcome ticket s).writing.outcomes (ap (λ (d : Seen). d.told) a.1) h
+answer_keeps opens boots s (Getting key got) device may a h = as_it_is s device (got_quiet s key got device a) h
+answer_keeps opens boots s (Scanning from to scanned) device may a h = as_it_is s device (scan_quiet s from to scanned device a) h
+answer_keeps opens boots s (Listing answer) device may a h = as_it_is s device a.quiet.same h
+answer_keeps opens boots s (Crashing pick kept) device may a h = crash_keeps s pick kept device a h
+answer_keeps opens boots s Finishing device may a h = absurd may
+
+pub turn_keeps : OpeningBoots → BootCallKeeps → TurnKeeps
+turn_keeps opens boots s next event may turn h = subst IsCovered (sym turn.1) (answer_keeps opens boots s event next.device may turn.0 h)

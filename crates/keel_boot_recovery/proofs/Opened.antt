@@ -1,0 +1,120 @@
+-- An opening of a device at rest leaves a store that boots.
+use Rattle.std.proofs.Common.{◌≡◌, ℕ, true, false, if◌then◌else◌, List, [], ◌∷◌, length, Option, Some, None, option_map, Ok, refl, sym, ap, subst, ◌∙◌, arith}
+use Rattle.std.specs.Prelude.{nat_le}
+use Rattle.std.specs.List.{AllByRecursion}
+use Rattle.std.proofs.lemmas.Bool.{leb-true}
+use Rattle.keel_base.specs.declared.file_name.FileName.TheVariants.{Current}
+use Rattle.keel_base.specs.declared.op.Op.{Op}
+use Rattle.keel_base.specs.Points.{Point}
+use Rattle.keel_directory.specs.Reading.{Reading, StoreRead, new, held, refused, IsReading, HasPoint, all_rows}
+use Rattle.keel_directory.specs.Sound.{IsSoundReading}
+use Rattle.keel_directory.specs.TableFiles.{TableFile, Opens}
+use Rattle.keel_directory.proofs.OneReading.{reading_one}
+use Rattle.keel_disk.specs.declared.state.Operation.{Operation}
+use Rattle.keel_disk.specs.Directory.{Named, find, operated_all}
+use Rattle.keel_disk.specs.Plain.{image_read}
+use Rattle.keel_disk.specs.Sound.{AreOwn, IsAtRest}
+use Rattle.keel_disk.specs.State.{State as Disk, file_at, directory_read}
+use Rattle.keel_disk.specs.Told.{Told, TellsListing}
+use Rattle.keel_disk.proofs.Imaging.{read_found}
+use Rattle.keel_disk.proofs.Operating.{is_below}
+use Rattle.keel_boot_machine.specs.Opening.{Found, IsFoundIn, IsFoundBy, continues, opened, ops_replayed, replayed_segments, tables_in}
+use Rattle.keel_boot_machine.specs.Resuming.{batches_in}
+use Rattle.keel_boot_machine.specs.States.{Story, entries_in, point_of}
+use Rattle.keel_open.specs.Stores.{IsReadBy, StoreTells, replay_in}
+use Rattle.keel_boot_recovery.specs.BootCalls.{BootFacts, IsUnmoved}
+use Rattle.keel_boot_recovery.specs.Booting.{below}
+use Rattle.keel_boot_recovery.specs.Machine.{OpeningBoots}
+use Rattle.keel_boot_recovery.proofs.BootOpened.{just_opened, levels_open}
+use Rattle.keel_boot_recovery.proofs.Found.{held_gives, none_held, same_held, has_map}
+use Rattle.keel_boot_recovery.proofs.Limits.{ImageSmall}
+use Rattle.keel_boot_recovery.proofs.Machine.{directory_at_rest}
+use Rattle.keel_boot_recovery.proofs.Opening.{small_image, all_drawn, point_is, held_facts, new_facts}
+use Rattle.keel_version.specs.Tables.{AreLevels, IsWithin}
+
+all_below : (total : ℕ) (d : Named ℕ) → AreOwn total d → below total d ≡ d
+all_below total [] own = refl
+all_below total (entry ∷ rest) own =
+    elim (nat_le total entry.1) as (λ b. nat_le total entry.1 ≡ b → (if b then below total rest else entry ∷ below total rest) ≡ entry ∷ rest) [
+      | true ↦ λ newer. absurd (omega (arith, own.0.exists, leb-true total entry.1 newer))
+      | false ↦ λ older. ap (λ d. entry ∷ d) (all_below total rest own.1)
+    ] refl
+
+-- ---- what was found
+
+-- the facts of a store that was found, which has no batch where it has no CURRENT
+record FactsOf (image : Named (List ℕ)) (found : Found) (story : Story) : Type 0 where
+  facts : BootFacts found.levels (batches_in (replayed_segments (ops_replayed found.store.batches.items) found.store.logs.items)) found.store.version.last_seq story
+  bare : find Current image ≡ None → ops_replayed found.store.batches.items ≡ []
+
+module _ (image : Named (List ℕ)) (small : ImageSmall image) (found : Found) (story : Story) (order : AreLevels found.store.version.tables) (within : IsWithin found.store.version)
+    (tables : entries_in found.levels ≡ found.store.version.tables) (seq : found.point.seq ≡ found.store.last_seq) (point : point_of story ≡ found.point) where
+  not_both : (f : StoreRead) (p : Point) → IsReading image new → IsReading image (held f p) → ⊥
+  not_both f p a b = let e = reading_one image new (held f p) a b in cc
+
+  facts_of : (reading : Reading) (manifest : Option ℕ) → IsReading image reading → HasPoint reading found.point → found.levels ≡ tables_in reading → IsSoundReading reading → IsReadBy image manifest found.store → FactsOf image found story
+  facts_of (refused refusal) manifest is has levels sound store = absurd has
+  facts_of new None is has levels sound store = record {
+    facts = new_facts image small found story order within tables seq point levels store.base.version store.batches has;
+    bare = λ none. ap ops_replayed store.batches;
+  }
+  facts_of new (Some number) is has levels sound store =
+      let st = store.store in
+      let made = has_map (all_rows st.store) in
+      let at : Point = record { values = made.0; seq = found.store.last_seq } in
+      absurd (not_both st.store at is (st.reads at made.1 refl))
+  facts_of (held f p) None is has levels sound store = absurd (not_both f p store.reads is)
+  facts_of (held f p) (Some number) is has levels sound store =
+      let st = store.store in
+      let made = has_map (all_rows st.store) in
+      let at : Point = record { values = made.0; seq = found.store.last_seq } in
+      let same : f ≡ st.store = same_held image f st.store p at is (st.reads at made.1 refl) in
+      let replay : f.replay ≡ replay_in found.store = ap (λ (g : StoreRead). g.replay) same ∙ st.replay_is in
+      let read : IsReading image (held f found.point) = subst (λ (q : Point). IsReading image (held f q)) (sym has) is in
+      record {
+        facts = held_facts image small found story order within tables seq point f levels (ap (λ (g : StoreRead). g.version) same ∙ st.version) (ap (λ r. r.batches) replay) (ap (λ r. r.last) replay)
+            sound (held_gives image f found.point read);
+        bare = λ none. absurd (none_held image f p none is);
+      }
+
+-- ---- the store that boots
+
+no_batches : (ops : List (List Op)) (logs : List ℕ) → ops ≡ [] → replayed_segments ops logs ≡ []
+no_batches ops logs e = ap (λ l. replayed_segments l logs) e
+
+pub opening_boots : OpeningBoots
+opening_boots s options found device told is a rest after stands =
+    let state = told.state in
+    let image = image_read state in
+    let story = (opened options found s).story in
+    let directory = directory_at_rest state rest in
+    let inside : IsFoundIn told found = (subst (λ (o : Option Told). IsFoundBy o found) is a.finds.read) directory in
+    let store : IsReadBy image found.store.manifest found.store = (subst (λ (o : Option Told). StoreTells o (Ok found.store)) is a.cause) directory in
+    let point : point_of story ≡ found.point = point_is (continues s.mode s.footing) s.story found.point a.finds.goes_on in
+    let now = stands.now.1 in
+    let sound : IsSoundReading inside.reading = subst IsSoundReading (reading_one image now.reading inside.reading now.is_read inside.is_read) now.sound in
+    let facts = facts_of image (small_image state.files (directory_read state) rest.sound.files) found story a.finds.order a.finds.within a.finds.tables a.finds.seq point inside.reading found.store.manifest inside.is_read inside.has inside.levels sound store in
+    let drawn = all_drawn told found.store.listing found.store.next_file rest a.finds.next.over (subst (λ (o : Option Told). TellsListing o found.store.listing) is a.finds.listing) in
+    let opens = subst (λ ts. AllByRecursion (λ (table : TableFile). Opens image table.entry table) ts) (sym inside.levels) (levels_open image inside.reading inside.is_read) in
+    record {
+      bound = length state.files;
+      booting = just_opened state rest found.levels story found.store.next_file stands opens drawn;
+      after = after;
+      numbered = a.finds.next.positive;
+      bare = λ unmoved none. no_batches (ops_replayed found.store.batches.items) found.store.logs.items (facts.bare (no_current state rest none));
+      facts = facts.facts;
+      unbegun = λ failures runs. never_moved state rest;
+      runs = tt;
+      none_active = refl;
+      none_waits = refl;
+      no_group = refl;
+    }
+  where
+    no_current : (state : Disk) → IsAtRest state → find Current (below (length state.files) state.firm) ≡ None → find Current (image_read state) ≡ None
+    no_current state rest none =
+        let firm : find Current state.firm ≡ None = subst (λ d. find Current d ≡ None) (all_below (length state.files) state.firm (rest.sound.one_to_one 0)) none in
+        let here : find Current (directory_read state) ≡ None = subst (λ (ops : List Operation). find Current (operated_all ops state.firm) ≡ None) (sym rest.settled.none_waits) firm in
+        read_found state.files Current (directory_read state) ∙ ap (option_map (λ n. (file_at n state.files).read)) here
+
+    never_moved : (state : Disk) → IsAtRest state → IsUnmoved (length state.files) state
+    never_moved state rest = λ count current named newer. omega (arith, newer, is_below (length state.files) Current current _ (rest.sound.one_to_one count) named)

@@ -1,0 +1,9 @@
+pub mod Rising
+pub mod Finding
+pub mod Causes
+pub mod Ranging
+pub mod Turning
+pub mod Saying
+pub mod Spanning
+pub mod Listing
+pub mod Valuing

@@ -1,0 +1,5 @@
+pub mod Newest
+pub mod Live
+pub mod Laws
+pub mod Ranges
+pub mod Merging

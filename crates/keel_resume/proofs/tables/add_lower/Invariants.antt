@@ -1,0 +1,8 @@
+use Rattle.std.proofs.Common.{◌≡◌, ◌==◌, not, ◌++◌, drop, filter}
+use Rattle.keel_edit.specs.declared.edit.Added.{Added}
+use Rattle.keel_resume.proofs.tables.add_lower.Given as goal
+
+-- what was added with what is still to be added is all
+abbrev pub invariant-loop-table : goal.invariant-loop-table
+invariant-loop-table l =
+    l.tables ++ filter (λ (table : Added). not (table.level == 0)) (drop l.table-index l.live) ≡ l.initial.tables ++ filter (λ (table : Added). not (table.level == 0)) l.live
