@@ -4,7 +4,7 @@
 //! the device was left, the story of the batches, the segments with their logs, the queue and the outcomes,
 //! the failures, the group in flight, the numbers. `Turn` says of a state, a call and
 //! its answer what the call did: each answer has its exact cause, and the next state is a function of the
-//! state, the answer and what the device then shows. The store's own code stands in `keel_core`, whose calls
+//! state, the answer and what the device then shows. The store's own code stands in `keel_boot_core`, whose calls
 //! are turns of this machine; here are only the answers as types, the definitions, and laws about them.
 #![tactic(auto)]
 

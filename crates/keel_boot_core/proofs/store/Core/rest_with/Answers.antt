@@ -1,0 +1,11 @@
+use Rattle.keel_boot_machine.specs.declared.answers.Outcome.TheVariants as outcome
+use Rattle.keel_group.specs.Queue.{tickets_of}
+use Rattle.keel_boot_core.proofs.Ordering.{turned_in_order, given_settled}
+use Rattle.keel_boot_core.proofs.store.Core.rest_with.Goals as goal
+
+pub invariant_of-self : goal.invariant_of-self
+invariant_of-self g c =
+    let w = c.self.inside in
+    let q = c.turn_away.ensures in
+    turned_in_order w.mem w.trail w.queue c.turn_away.new.self _ _ w.log w.failed w.last_seq w.handed_seq w.next_file.number _ c.self.invariant
+    q.waiting q.group q.outcomes (given_settled (outcome.Turned c.in-Turned.failure) (tickets_of w.queue.waiting.items) tt) q.len q.room q.last_ticket q.job
