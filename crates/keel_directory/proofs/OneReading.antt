@@ -7,10 +7,13 @@ use Rattle.keel_base.specs.declared.file_name.FileName.TheVariants.{Manifest, Cu
 use Rattle.keel_base.specs.Points.{Point, Values}
 use Rattle.keel_base.specs.Rows.{IsMapOf}
 use Rattle.keel_name.proofs.Currents.{one_manifest}
+use Rattle.keel_frag.specs.declared.record.LogRecord.{LogRecord}
+use Rattle.keel_frag.specs.Pieces.{Progress}
+use Rattle.keel_frag.specs.Reading.{AreRecords}
+use Rattle.keel_frag.proofs.Fronts.{one_reading}
 use Rattle.keel_disk.specs.Directory.{Named, find}
 use Rattle.keel_edit.specs.declared.edit.Added.{Added}
 use Rattle.keel_version.specs.Tables.{Contents}
-use Rattle.keel_reading.proofs.OneReading.{records_once}
 use Rattle.keel_directory.specs.Refusals.{Refusal}
 use Rattle.keel_directory.specs.Manifests.{CurrentIs, ManifestIs, version_of}
 use Rattle.keel_directory.specs.TableFiles.{TableFile, open_sized, Opens, AllOpen, TablesGive, refusal_of}
@@ -31,6 +34,13 @@ ok_is : {A E : Type 0} (x y : A) → ok {E = E} x ≡ ok y → x ≡ y
 ok_is x y e = cc
 
 -- ---- logs and the manifest
+
+-- bytes have the same records in each reading
+records_once : (bytes : List ℕ) (xs ys : List LogRecord) (m n : ℕ) → AreRecords bytes xs m → AreRecords bytes ys n → xs ≡ ys
+records_once bytes xs ys m n a b =
+    let p : Progress = record { offset = m; done = xs; begun = a.0 } in
+    let q : Progress = record { offset = n; done = ys; begun = b.0 } in
+    ap (λ (r : Progress). r.done) (one_reading bytes p q a.1 b.1)
 
 log_is : (a b : ReadLog) (us bs : List ReadLog) → a.number ≡ b.number → a.records ≡ b.records → us ≡ bs → a ∷ us ≡ b ∷ bs
 log_is a b us bs p q r = λ i. record { number = p i; records = q i } ∷ r i

@@ -8,7 +8,7 @@ use Rattle.keel_base.specs.declared.row.Row.{Row}
 use Rattle.keel_base.specs.Rows.{newest}
 use Rattle.keel_disk.specs.State.{file_at, file_of}
 use Rattle.keel_disk.specs.Told.{Told, bytes_of}
-use Rattle.keel_reading.proofs.Standing.{image_has}
+use Rattle.keel_listing.proofs.Files.{image_has}
 use Rattle.keel_edit.specs.declared.edit.Added.{Added}
 use Rattle.keel_table.specs.declared.fault.TableFault.{TableFault}
 use Rattle.keel_table.specs.declared.fault.TableFault.TheVariants as fault

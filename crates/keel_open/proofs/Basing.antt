@@ -7,7 +7,7 @@ use Rattle.keel_disk.specs.Directory.{Named, find}
 use Rattle.keel_disk.specs.Listings.{IsListing}
 use Rattle.keel_disk.specs.Plain.{image_read}
 use Rattle.keel_disk.specs.Told.{Told, TellsListing, bytes_of}
-use Rattle.keel_reading.proofs.Standing.{image_has}
+use Rattle.keel_listing.proofs.Files.{image_has}
 use Rattle.keel_directory.specs.Manifests.{CurrentIs, ManifestIs}
 use Rattle.keel_directory.specs.Reading.{IsReading, WithCurrent, FoundBy, first_used, refused, without_current}
 use Rattle.keel_directory.specs.Refusals.{Refusal, no_current}

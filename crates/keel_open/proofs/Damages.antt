@@ -10,7 +10,7 @@ use Rattle.keel_disk.specs.State.{file_at, file_of}
 use Rattle.keel_disk.specs.Told.{Told, TellsListing, TellsSize}
 use Rattle.keel_disk.specs.Told.{bytes_of as told_bytes}
 use Rattle.keel_edit.specs.declared.edit.Added.{Added}
-use Rattle.keel_reading.proofs.Standing.{image_has}
+use Rattle.keel_listing.proofs.Files.{image_has}
 use Rattle.keel_table.specs.declared.fault.TableFault.{TableFault}
 use Rattle.keel_table.specs.declared.fault.TableFault.TheVariants as fault
 use Rattle.keel_table.specs.declared.table.Table.{Table}

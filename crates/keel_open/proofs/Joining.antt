@@ -10,8 +10,8 @@ use Rattle.keel_disk.specs.Directory.{Named, find, operated_all}
 use Rattle.keel_disk.specs.Plain.{bytes_read}
 use Rattle.keel_disk.specs.Sound.{AreOwn, IsOneToOne}
 use Rattle.keel_disk.specs.State.{State, file_at, directory_read}
-use Rattle.keel_reading.specs.Answers.{AreNames}
-use Rattle.keel_reading.proofs.Standing.{found_read}
+use Rattle.keel_listing.specs.Names.{AreNames}
+use Rattle.keel_listing.proofs.Files.{found_read}
 use Rattle.keel_directory.specs.Laws.{AreNamedOnce}
 use Rattle.keel_directory.specs.Manifests.{ManifestIs}
 use Rattle.keel_directory.specs.Refusals.{Refusal}

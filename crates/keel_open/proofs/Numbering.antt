@@ -1,7 +1,7 @@
 -- The number of the next file, file by file.
 use Rattle.std.proofs.Common.{◌≡◌, ◌⊎◌, inl, inr, ℕ, ◌+◌, ◌<◌, ◌≤◌, List, [], ◌∷◌, ◌++◌, length, take, get_or, refl, sym, subst, arith}
 use Rattle.keel_base.specs.declared.listing.Entry.{Entry}
-use Rattle.keel_reading.proofs.Parts.{one_more}
+use Rattle.keel_listing.proofs.Parts.{one_more}
 use Rattle.keel_open.specs.NextFiles.{number_in, IsOverAll, IsNextFile}
 
 over_more : (n m : ℕ) (listing : List Entry) → n ≤ m → IsOverAll n listing → IsOverAll m listing

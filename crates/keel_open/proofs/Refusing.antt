@@ -10,7 +10,7 @@ use Rattle.keel_disk.specs.Told.{Told, TellsListing}
 use Rattle.keel_disk.specs.Told.{bytes_of as told_bytes}
 use Rattle.keel_edit.specs.declared.edit.Added.{Added}
 use Rattle.keel_edit.specs.Spelling.{IsAdded}
-use Rattle.keel_reading.proofs.Standing.{image_has}
+use Rattle.keel_listing.proofs.Files.{image_has}
 use Rattle.keel_directory.specs.Refusals.{missing_table, bad_table}
 use Rattle.keel_directory.specs.TableFiles.{bytes_of, damage_refused, lesser, least, refused_for_damage, refused_for_missing, refusal_of}
 use Rattle.keel_open.specs.declared.refusal.OpenRefusal.{OpenRefusal}

@@ -15,9 +15,9 @@ use Rattle.keel_disk.specs.Listings.{IsListing, size_listed}
 use Rattle.keel_disk.specs.Plain.{image_read}
 use Rattle.keel_disk.specs.State.{file_at, file_of, directory_read}
 use Rattle.keel_disk.specs.Told.{Told, TellsListing, bytes_of}
-use Rattle.keel_reading.specs.Answers.{AreNames}
-use Rattle.keel_reading.proofs.Listed.{listed_name}
-use Rattle.keel_reading.proofs.Standing.{image_has}
+use Rattle.keel_listing.specs.Names.{AreNames}
+use Rattle.keel_listing.proofs.Names.{listed_name}
+use Rattle.keel_listing.proofs.Files.{image_has}
 use Rattle.keel_directory.specs.Laws.{AreNamedOnce, NamesUsed}
 use Rattle.keel_directory.specs.Reading.{first_used}
 use Rattle.keel_directory.specs.Reading.{is_used as is_used_in}

@@ -8,7 +8,7 @@ use Rattle.keel_disk.specs.State.{State, directory_read}
 use Rattle.keel_disk.specs.Plain.{image_read}
 use Rattle.keel_disk.specs.Told.{Told, TellsListing}
 use Rattle.keel_disk.specs.Listings.{IsListing}
-use Rattle.keel_reading.specs.Answers.{AreNames}
+use Rattle.keel_listing.specs.Names.{AreNames}
 use Rattle.keel_directory.specs.Laws.{AreNamedOnce}
 use Rattle.keel_directory.specs.Reading.{first_used}
 

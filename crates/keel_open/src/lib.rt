@@ -10,7 +10,7 @@
 //!   up the reading; and a device as calls and crashes leave it is one of which all this is said.
 //!
 //! It stands on the device (`keel_disk`), on manifests (`keel_manifest`, `keel_edit`, `keel_version`), tables (`keel_table`)
-//! and logs (`keel_wal`), and on the reading of a directory (`keel_directory`).
+//! and logs (`keel_wal`), on listings (`keel_listing`), and on the reading of a directory (`keel_directory`).
 #![tactic(auto)]
 
 mod base;

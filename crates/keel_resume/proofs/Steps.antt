@@ -22,7 +22,8 @@ use Rattle.keel_resume.proofs.Stages.{before_begins, last_stage}
 drop_next : {A : Type 0} (n : ℕ) (xs later : List A) (x : A) → drop n xs ≡ x ∷ later → drop (n + 1) xs ≡ later
 drop_next n xs later x e = sym (drop-drop 1 n xs) ∙ ap (drop 1) e
 
-handed_made : (next : ℕ) (act : Act) (p : Progress) → (handed next act p).made ≡ p.made
+-- a file that was handed to `create` makes no call
+pub handed_made : (next : ℕ) (act : Act) (p : Progress) → (handed next act p).made ≡ p.made
 handed_made next MakeTable p = refl
 handed_made next (AddPiece bytes) p = refl
 handed_made next SyncTable p = refl

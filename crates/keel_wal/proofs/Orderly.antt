@@ -8,8 +8,8 @@ use Rattle.keel_disk.specs.Plain.{bytes_read}
 use Rattle.keel_disk.specs.Sound.{AreOwn}
 use Rattle.keel_disk.specs.State.{file_at, directory_read}
 use Rattle.keel_directory.specs.Laws.{AreNamedOnce}
-use Rattle.keel_reading.proofs.Founding.{sound_names}
-use Rattle.keel_reading.proofs.Standing.{found_read}
+use Rattle.keel_listing.proofs.Names.{sound_names}
+use Rattle.keel_listing.proofs.Files.{found_read}
 use Rattle.keel_wal.specs.Laws.{SoundIsOrderly}
 
 once_read : (bound : ℕ) (files : List File) (directory : Named ℕ) → AreOwn bound directory → AreNamedOnce (bytes_read files directory)

@@ -17,9 +17,11 @@ use Rattle.keel_directory.specs.declared.logs.LogFile.{LogFile}
 use Rattle.keel_directory.specs.Laws.{log_of, some_bytes, Rise}
 use Rattle.keel_directory.specs.Replays.{logs_from}
 use Rattle.keel_directory.proofs.Those.{logs_those}
-use Rattle.keel_reading.specs.declared.directory.ListedLog.{ListedLog}
-use Rattle.keel_reading.specs.Answers.{IsNextLog, NoLogFrom}
-use Rattle.keel_reading.proofs.Standing.{image_has, log_content, not_named, listed_none, listed_some, log_is_name}
+use Rattle.keel_listing.specs.declared.logs.ListedLog.{ListedLog}
+use Rattle.keel_listing.specs.Logs.{IsNextLog, NoLogFrom}
+use Rattle.keel_listing.proofs.Files.{image_has, log_content}
+use Rattle.keel_listing.proofs.Names.{not_named}
+use Rattle.keel_listing.proofs.Telling.{listed_none, listed_some, log_is_name}
 use Rattle.keel_wal.specs.Replays.{IsOrderly, AreLogsFrom, LogsTold, RiseNumbers, file_of, has}
 use Rattle.keel_wal.proofs.Rising.{Below, none_below, rising_same, rise_more, below_more, below_end, log_of-append, log_of-front}
 

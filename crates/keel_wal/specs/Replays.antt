@@ -11,7 +11,7 @@ use Rattle.keel_directory.specs.declared.logs.LogFile.{LogFile}
 use Rattle.keel_directory.specs.Laws.{AreNamedOnce}
 use Rattle.keel_directory.specs.Refusals.{bad_log, log_gap}
 use Rattle.keel_directory.specs.Replays.{Replay, LogsAre, logs_from, run_on}
-use Rattle.keel_reading.specs.Answers.{AreNames}
+use Rattle.keel_listing.specs.Names.{AreNames}
 use Rattle.keel_wal.specs.declared.reading.Replayed.{Replayed}
 use Rattle.keel_wal.specs.declared.reading.ReplayError.{ReplayError}
 use Rattle.keel_wal.specs.declared.reading.ReplayError.TheVariants as error

@@ -7,7 +7,7 @@
 //!   its bytes by `LogsAre` of `keel_directory` (`ReplayAnswers` of `specs/Replays`).
 //! - `laws`: a device as calls and crashes leave it is one of which that is said.
 //!
-//! It stands on the device (`keel_disk`), on what logs give (`keel_directory`), and on listings (`keel_reading`).
+//! It stands on the device (`keel_disk`), on what logs give (`keel_directory`), and on listings (`keel_listing`).
 #![tactic(auto)]
 
 pub mod laws;

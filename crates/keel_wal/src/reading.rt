@@ -11,7 +11,7 @@ ghost use Rattle.keel_wal.specs.Replays.{file_of, LogsTold, ReplayAnswers, RunsO
 use keel_base::{Bytes, Fault, FileName, Listing, OutOfMemory};
 use keel_directory::{DirectoryRefusal, LogFile, Replayed as LogBatch, replay_logs};
 use keel_disk::{Disk, DiskError, read_file};
-use keel_reading::next_log;
+use keel_listing::next_log;
 use std::alloc::Global;
 
 /// What logs give.

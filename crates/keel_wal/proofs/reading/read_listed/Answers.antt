@@ -2,7 +2,7 @@ use Rattle.std.proofs.Common.{arith, None}
 use Rattle.keel_base.specs.declared.file_name.FileName.TheVariants.{Log}
 use Rattle.keel_disk.specs.Files.{IsContent}
 use Rattle.keel_disk.proofs.Faults.{quiet_itself, quiet_behind}
-use Rattle.keel_reading.proofs.Standing.{log_is_name, tells_size}
+use Rattle.keel_listing.proofs.Telling.{log_is_name, tells_size}
 use Rattle.keel_wal.proofs.Walking.{none_read, next_read, finished}
 use Rattle.keel_wal.proofs.reading.read_listed.Goals as goal
 

@@ -1,9 +1,0 @@
-pub mod Parts
-pub mod Batching
-pub mod OneReading
-pub mod Running
-pub mod Adding
-pub mod Listed
-pub mod Standing
-pub mod Answering
-pub mod Founding

@@ -1,5 +1,0 @@
-use Rattle.keel_reading.proofs.OneReading.{reads_once}
-use Rattle.keel_reading.proofs.laws.one_reading.Goals as goal
-
-pub returns : goal.returns
-returns c = reads_once
