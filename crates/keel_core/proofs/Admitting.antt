@@ -1,5 +1,5 @@
 -- A batch that is queued, an outcome that is taken, and files that are listed.
-use Rattle.std.proofs.Common.{◌≡◌, ℕ, ◌+◌, ◌*◌, ◌<◌, ◌≤◌, ◌^◌, ◌==◌, not, Bool, true, false, List, [], ◌∷◌, ◌++◌, length, map, filter, find, cond, Option, Some, None, Result, Ok, Err, IfOk, OnOk, is_err, option_map, unwrap_or, is_some, nat_lt, nat_le, refl, sym, ap, subst, ◌∙◌, arith, if◌then◌else◌}
+use Rattle.std.proofs.Common.{◌≡◌, ℕ, ◌+◌, ◌*◌, ◌<◌, ◌≤◌, ◌^◌, ◌==◌, ◌&&◌, not, Bool, true, false, List, [], ◌∷◌, ◌++◌, length, map, filter, find, cond, Option, Some, None, Result, Ok, Err, IfOk, OnOk, is_err, option_map, unwrap_or, nat_lt, nat_le, refl, sym, ap, subst, ◌∙◌, arith, if◌then◌else◌}
 use Rattle.std.proofs.lemmas.Bool.{ltb-true, leb-true}
 use Rattle.std.specs.List.{AllByRecursion, list_any}
 use Rattle.keel_base.specs.declared.listing.Entry.{Entry}
@@ -12,24 +12,27 @@ use Rattle.keel_disk.specs.Listings.{IsListing}
 use Rattle.keel_disk.specs.Told.{TellsListing}
 use Rattle.keel_disk.specs.Seen.{IsQuiet, Seen}
 use Rattle.keel_machine.specs.declared.answers.Admit.{Admit}
-use Rattle.keel_machine.specs.declared.answers.Admit.TheVariants.{Queued, Spent, Stopped, QueueFull}
+use Rattle.keel_machine.specs.declared.answers.Admit.TheVariants.{BadSize, Booting, Full, OutOfMemory, Queued, Spent, Stopped, QueueFull}
 use Rattle.keel_base.specs.declared.failure.Counter.TheVariants.{Sequence, Ticket}
 use Rattle.keel_machine.specs.declared.answers.Outcome.{Outcome}
 use Rattle.keel_machine.specs.declared.answers.Outcome.TheVariants as outcome
-use Rattle.keel_machine.specs.Admission.{ops_of, count_ops, batches_of_group, tickets_of_group, seq_with, size_refusal, outcome_kept}
-use Rattle.keel_handler.specs.Failures.{stopping_of}
-use Rattle.keel_machine.specs.States.{State, Group, point_of}
+use Rattle.keel_machine.specs.Admission.{ops_of, batches_of_group, tickets_of_group, refusal, seq_with, size_refusal, outcome_kept}
+use Rattle.keel_machine.specs.States as machine
+use Rattle.keel_machine.specs.States.{State}
 use Rattle.keel_machine.specs.Tests.{first_some, when}
 use Rattle.keel_machine.specs.Turns.{Event, Answers, after, Admitting, Listing, TakingOutcome}
 use Rattle.keel_machine.specs.WritingAfter.{failure_of}
 use Rattle.keel_group.specs.Queue.{Ticketed, ticketed, batches_of, tickets_of}
-use Rattle.keel_core.specs.declared.flight.Flight.{Flight}
-use Rattle.keel_core.specs.Flights.{flying}
-use Rattle.keel_core.specs.Orders.{IsSettled}
+use Rattle.keel_mem.specs.Totals.{weight_of}
+use Rattle.keel_resume.specs.Drafts.{count_ops}
+use Rattle.keel_core.specs.Flights.{FlightShown, IsPlanned, batches_flying, group_of, running_of, tickets_flying}
+use Rattle.keel_core.specs.Orders.{IsSettled, IsStaged}
 use Rattle.keel_core.specs.Queues.{on_its_way, outcome_told}
-use Rattle.keel_core.specs.Views.{AreAlike, Beyond, CoreView, StandsFor, Fits, TakesTurn, failures_of, state_of, point_in, calls_in}
+use Rattle.keel_core.specs.Views.{Beyond, BootShown, ToStart, Running, Over, Cleared, CoreView, StandsFor, Fits, TakesTurn, is_store_full, state_of, last_in, calls_in, takes_writes}
 use Rattle.keel_core.proofs.Resting.{stopping_is}
-use Rattle.keel_core.proofs.Stories.{part_point}
+use Rattle.keel_core.proofs.Segmenting.{active_weighs, as_many}
+use Rattle.keel_core.proofs.Standing.{left_is}
+use Rattle.keel_core.proofs.Stories.{last_same}
 
 -- It is enough to show it of the state of what is beyond the core.
 pub turns_by_story : (old new : CoreView) (event : Event)
@@ -46,30 +49,22 @@ pub listed_goes : (view : CoreView) (device : Seen) (answer : Result (List Entry
     → IsQuiet view.device (disk_fault answer) device → TakesTurn view (Listing answer) (record view { device = device })
 listed_goes view device answer tells order quiet = turns_by_story view (record view { device = device }) (Listing answer) (λ beyond fits. (
   record { tells = tells; order = order; quiet = quiet },
-  record { beyond = beyond; state_is = refl; fits = record { story = fits.story; group = fits.group } },
+  record { beyond = beyond; state_is = refl; fits = record { story = fits.story; segments = fits.segments; tables = fits.tables; opened = fits.opened; leads = fits.leads } },
 ))
 
 -- ---- a batch is queued
 
-same_ops : (group running : Option Group) → AreAlike group running → batches_of_group running ≡ batches_of_group group
-same_ops None None alike = refl
-same_ops None (Some running) alike = absurd alike
-same_ops (Some group) None alike = absurd alike
-same_ops (Some group) (Some running) alike = alike.batches
+same_ops : (group : Option FlightShown) → batches_of_group (running_of group) ≡ batches_flying group
+same_ops None = refl
+same_ops (Some flight) = refl
 
-same_tickets : (group running : Option Group) → AreAlike group running → tickets_of_group running ≡ tickets_of_group group
-same_tickets None None alike = refl
-same_tickets None (Some running) alike = absurd alike
-same_tickets (Some group) None alike = absurd alike
-same_tickets (Some group) (Some running) alike = alike.tickets
+same_tickets : (group : Option FlightShown) → tickets_of_group (running_of group) ≡ tickets_flying group
+same_tickets None = refl
+same_tickets (Some flight) = refl
 
 waiting_ops : (waiting : List Ticketed) → count_ops (map (λ (member : Ticketed). member.batch.ops) waiting) ≡ count_ops (ops_of (batches_of waiting))
 waiting_ops [] = refl
 waiting_ops (first ∷ waiting) = ap (λ n. length first.batch.ops + n) (waiting_ops waiting)
-
-none_first : (size : Option Admit) (standing : Option Failure) (a b c : Bool) (x y z : Admit) → size ≡ None → standing ≡ None → a ≡ false → b ≡ false → c ≡ false
-    → first_some (size ∷ option_map Stopped standing ∷ when a x ∷ when b y ∷ when c z ∷ []) ≡ None
-none_first size standing a b c x y z o p q r s = λ i. first_some (o i ∷ option_map Stopped (p i) ∷ when (q i) x ∷ when (r i) y ∷ when (s i) z ∷ [])
 
 not_lt : (a b : ℕ) → b ≤ a → nat_lt a b ≡ false
 not_lt a b h =
@@ -79,27 +74,6 @@ not_le : (a b : ℕ) → b < a → nat_le a b ≡ false
 not_le a b h =
     elim (nat_le a b) as (λ v. nat_le a b ≡ v → v ≡ false) [ true ↦ λ e. absurd (omega (arith, leb-true a b e)) | false ↦ λ e. refl ] refl
 
-sums : (a b c d e f g h i j : ℕ) → a ≡ b → c ≡ a + d → d ≡ e → f ≡ g → h ≡ i → c + (f + h) + j ≡ b + (e + g + i) + j
-sums a b c d e f g h i j p q r s t = omega arith
-
--- the sequence that a batch would bring, of what the code knows
-seq_is : (view : CoreView) (batch : Batch) (last_seq handed_seq : ℕ) (beyond : Beyond) → Fits view beyond
-    → last_seq ≡ (point_in view).seq → handed_seq ≡ last_seq + count_ops view.trail.limbo
-    → handed_seq + (count_ops (ops_of (batches_of_group view.group)) + count_ops (ops_of (batches_of view.waiting))) + length batch.ops ≡ seq_with (state_of view beyond) batch
-seq_is view batch last_seq handed_seq beyond fits last handed =
-    sums last_seq (point_of beyond.story).seq handed_seq (count_ops view.trail.limbo) (count_ops beyond.story.limbo) (count_ops (ops_of (batches_of_group view.group)))
-    (count_ops (ops_of (batches_of_group beyond.running))) (count_ops (ops_of (batches_of view.waiting)))
-    (count_ops (map (λ (member : Ticketed). member.batch.ops) view.waiting)) (length batch.ops)
-    (last ∙ ap (λ p. p.seq) (part_point view.trail beyond.story fits.story)) handed (ap count_ops (sym fits.story.limbo_is))
-    (ap (λ (l : List Batch). count_ops (ops_of l)) (sym (same_ops view.group beyond.running fits.group)))
-    (sym (waiting_ops view.waiting))
-
--- where no call failed, no failure stops writes
-calm_stops : (view : CoreView) (beyond : Beyond) → view.failed ≡ None → stopping_of beyond.paranoid (failures_of view.failed) ≡ None
-calm_stops view beyond calm = stopping_is beyond.paranoid view.failed ∙ ap (λ (f : Option Fault). option_map failure_of f) calm
-
--- ---- a batch is refused behind the tests of its size and of the failure that stands
-
 is_lt : (a b : ℕ) → a < b → nat_lt a b ≡ true
 is_lt a b h =
     elim (nat_lt a b) as (λ v. nat_lt a b ≡ v → v ≡ true) [ true ↦ λ e. refl | false ↦ λ e. absurd (grind (arith, e, h)) ] refl
@@ -108,100 +82,241 @@ is_le : (a b : ℕ) → a ≤ b → nat_le a b ≡ true
 is_le a b h =
     elim (nat_le a b) as (λ v. nat_le a b ≡ v → v ≡ true) [ true ↦ λ e. refl | false ↦ λ e. absurd (grind (arith, e, h)) ] refl
 
-tests : (size : Option Admit) (stopping : Option Failure) (a b c v w x : Bool) (l m n : Admit) (stops : Option Failure) → size ≡ None → stopping ≡ stops → a ≡ v → b ≡ w → c ≡ x
-    → first_some (size ∷ option_map Stopped stopping ∷ when a l ∷ when b m ∷ when c n ∷ []) ≡ first_some (None ∷ option_map Stopped stops ∷ when v l ∷ when w m ∷ when x n ∷ [])
-tests size stopping a b c v w x l m n stops o p q r s = λ i. first_some (o i ∷ option_map Stopped (p i) ∷ when (q i) l ∷ when (r i) m ∷ when (s i) n ∷ [])
+sums : (a b c d e f g h i j : ℕ) → a ≡ b → c ≡ a + d → d ≡ e → f ≡ g → h ≡ i → c + (f + h) + j ≡ b + (e + g + i) + j
+sums a b c d e f g h i j p q r s t = omega arith
 
-same_stands : (view : CoreView) (beyond : Beyond) → Fits view beyond → StandsFor view (state_of view beyond)
-same_stands view beyond fits = record { beyond = beyond; state_is = refl; fits = record { story = fits.story; group = fits.group } }
+-- the sequence that a batch would bring, of what the code knows
+seq_is : (view : CoreView) (batch : Batch) (last_seq handed_seq : ℕ) (beyond : Beyond) → Fits view beyond
+    → last_seq ≡ last_in view → handed_seq ≡ last_seq + count_ops view.trail.limbo
+    → handed_seq + (count_ops (ops_of (batches_flying view.group)) + count_ops (ops_of (batches_of view.waiting))) + length batch.ops ≡ seq_with (state_of view beyond) batch
+seq_is view batch last_seq handed_seq beyond fits last handed =
+    sums last_seq _ handed_seq (count_ops view.trail.limbo) (count_ops beyond.story.limbo) (count_ops (ops_of (batches_flying view.group)))
+    (count_ops (ops_of (batches_of_group (running_of view.group)))) (count_ops (ops_of (batches_of view.waiting)))
+    (count_ops (map (λ (member : Ticketed). member.batch.ops) view.waiting)) (length batch.ops)
+    (last ∙ sym (last_same view.trail beyond.story fits.story)) handed (ap count_ops (sym fits.story.limbo_is))
+    (ap (λ (l : List Batch). count_ops (ops_of l)) (sym (same_ops view.group)))
+    (sym (waiting_ops view.waiting))
 
--- a failure stands
-pub stopped_goes : (view : CoreView) (batch : Batch) (fault : Fault) → size_refusal batch ≡ None → view.failed ≡ Some fault → TakesTurn view (Admitting batch (Stopped (failure_of fault))) view
-stopped_goes view batch fault sized failed = turns_by_story view view (Admitting batch (Stopped (failure_of fault))) (λ beyond fits. (
-  (
-    tests (size_refusal batch) (stopping_of beyond.paranoid (failures_of view.failed)) _ _ _ _ _ _ _ _ _ (Some (failure_of fault)) sized
-        (stopping_is beyond.paranoid view.failed ∙ ap (λ (f : Option Fault). option_map failure_of f) failed) refl refl refl,
-    refl,
-  ),
-  same_stands view beyond fits,
-))
+-- ---- the tests in their order
 
--- what the code knows of its numbers, where no failure stands and the batch is within its limits
-pub record IsTested (view : CoreView) (batch : Batch) (last_seq handed_seq : ℕ) : Type 0 where
-  pub sized : size_refusal batch ≡ None
-  pub calm : view.failed ≡ None
-  pub last : last_seq ≡ (point_in view).seq
-  pub handed : handed_seq ≡ last_seq + count_ops view.trail.limbo
+-- what the tests say, one answer each
+pub record Tests : Type 0 where
+  pub size : Option Admit
+  pub booting : Bool
+  pub stopping : Option Failure
+  pub sequence : Bool
+  pub ticket : Bool
+  pub full : Bool
+  pub weight : ℕ
+  pub others : ℕ
+  pub queue : Bool
+  pub waiting : ℕ
+
+abbrev pub answer_of : Tests → Option Admit
+answer_of t = first_some (
+    t.size
+    ∷ when t.booting Booting
+    ∷ option_map Stopped t.stopping
+    ∷ when t.sequence (Spent Sequence)
+    ∷ when t.ticket (Spent Ticket)
+    ∷ when t.full (Full t.weight t.others)
+    ∷ when t.queue (QueueFull t.waiting)
+    ∷ [])
+
+-- those of a view whose boot has cleared
+abbrev pub tests_of : CoreView → Batch → ℕ → Tests
+tests_of view batch brought = record {
+  size = size_refusal batch;
+  booting = false;
+  stopping = option_map failure_of view.failed;
+  sequence = nat_lt (2 ^ 56) brought;
+  ticket = nat_le (2 ^ 56) view.last_ticket;
+  full = is_store_full view;
+  weight = weight_of view.rows;
+  others = length view.immutable;
+  queue = nat_le 64 (length view.waiting);
+  waiting = length view.waiting;
+}
 
 -- the sequence that the batch would bring, as the code counts it
 abbrev pub seq_brought : CoreView → Batch → ℕ → ℕ
-seq_brought view batch handed_seq = handed_seq + (count_ops (ops_of (batches_of_group view.group)) + count_ops (ops_of (batches_of view.waiting))) + length batch.ops
+seq_brought view batch handed_seq = handed_seq + (count_ops (ops_of (batches_flying view.group)) + count_ops (ops_of (batches_of view.waiting))) + length batch.ops
+
+-- what the code knows of its numbers, where the boot has cleared
+pub record IsKnown (view : CoreView) (last_seq handed_seq : ℕ) : Type 0 where
+  pub cleared : view.boot ≡ Cleared
+  pub last : last_seq ≡ last_in view
+  pub handed : handed_seq ≡ last_seq + count_ops view.trail.limbo
+
+refusal_is : (view : CoreView) (boot : BootShown) (batch : Batch) (last_seq handed_seq : ℕ) (beyond : Beyond) → boot ≡ Cleared → Fits (record view { boot = boot }) beyond
+    → last_seq ≡ last_in view → handed_seq ≡ last_seq + count_ops view.trail.limbo
+    → refusal (state_of (record view { boot = boot }) beyond) batch ≡ answer_of (tests_of view batch (seq_brought view batch handed_seq))
+refusal_is view Cleared batch last_seq handed_seq beyond cleared fits last handed =
+    let weight = active_weighs beyond.in_tables view.immutable beyond.immutable view.rows beyond.active _ fits.segments in
+    let others = as_many beyond.in_tables view.immutable beyond.immutable view.rows beyond.active _ fits.segments in
+    let stopping = stopping_is view.options.paranoid view.failed in
+    let seq = seq_is (record view { boot = Cleared }) batch last_seq handed_seq beyond fits last handed in
+    λ i. answer_of (record {
+      size = size_refusal batch;
+      booting = false;
+      stopping = stopping i;
+      sequence = nat_lt (2 ^ 56) (sym seq i);
+      ticket = nat_le (2 ^ 56) view.last_ticket;
+      full = nat_le view.options.write_buffer (weight i) && nat_le view.options.max_immutables (others i);
+      weight = weight i;
+      others = others i;
+      queue = nat_le 64 (length view.waiting);
+      waiting = length view.waiting;
+    })
+refusal_is view ToStart batch last_seq handed_seq beyond cleared fits last handed = absurd (cc cleared)
+refusal_is view (Running resumption) batch last_seq handed_seq beyond cleared fits last handed = absurd (cc cleared)
+refusal_is view (Over failure) batch last_seq handed_seq beyond cleared fits last handed = absurd (cc cleared)
+
+same_stands : (view : CoreView) (beyond : Beyond) → Fits view beyond → StandsFor view (state_of view beyond)
+same_stands view beyond fits = record { beyond = beyond; state_is = refl; fits = record { story = fits.story; segments = fits.segments; tables = fits.tables; opened = fits.opened; leads = fits.leads } }
+
+-- a refusal behind the test of the size
+abbrev pub IsRefusal : Admit → Type 0
+IsRefusal Booting = Unit {0}
+IsRefusal (Stopped failure) = Unit {0}
+IsRefusal (Spent counter) = Unit {0}
+IsRefusal (Full active immutables) = Unit {0}
+IsRefusal (QueueFull waiting) = Unit {0}
+IsRefusal _ = ⊥
+
+refused_turn : (view : CoreView) (batch : Batch) (answer : Admit) (beyond : Beyond) → IsRefusal answer → Fits view beyond → refusal (state_of view beyond) batch ≡ Some answer
+    → Answers (state_of view beyond) (Admitting batch answer) view.device × StandsFor view (after (state_of view beyond) (Admitting batch answer) view.device)
+refused_turn view batch Booting beyond refused fits is = ((is, refl), same_stands view beyond fits)
+refused_turn view batch (Stopped failure) beyond refused fits is = ((is, refl), same_stands view beyond fits)
+refused_turn view batch (Spent counter) beyond refused fits is = ((is, refl), same_stands view beyond fits)
+refused_turn view batch (Full active immutables) beyond refused fits is = ((is, refl), same_stands view beyond fits)
+refused_turn view batch (QueueFull waiting) beyond refused fits is = ((is, refl), same_stands view beyond fits)
+refused_turn view batch (Queued ticket) beyond refused fits is = absurd refused
+refused_turn view batch (BadSize part length) beyond refused fits is = absurd refused
+refused_turn view batch OutOfMemory beyond refused fits is = absurd refused
+
+pub refused_goes : (view : CoreView) (batch : Batch) (last_seq handed_seq : ℕ) (answer : Admit) → IsKnown view last_seq handed_seq → IsRefusal answer
+    → answer_of (tests_of view batch (seq_brought view batch handed_seq)) ≡ Some answer → TakesTurn view (Admitting batch answer) view
+refused_goes view batch last_seq handed_seq answer known refused is = turns_by_story view view (Admitting batch answer) (λ beyond fits.
+    refused_turn view batch answer beyond refused fits (refusal_is view view.boot batch last_seq handed_seq beyond known.cleared fits known.last known.handed ∙ is))
+
+-- the tests before one say nothing
+pub answers_at : (t u : Tests) (answer : Admit) → t ≡ u → answer_of u ≡ Some answer → answer_of t ≡ Some answer
+answers_at t u answer same is = ap answer_of same ∙ is
+
+abbrev calm_tests : CoreView → Batch → ℕ → Bool → Bool → Bool → Bool → Tests
+calm_tests view batch brought sequence ticket full queue = record (tests_of view batch brought) { size = None; stopping = None; sequence = sequence; ticket = ticket; full = full; queue = queue }
+
+calm_same : (view : CoreView) (batch : Batch) (brought : ℕ) (a b c d : Bool) → size_refusal batch ≡ None → view.failed ≡ None
+    → nat_lt (2 ^ 56) brought ≡ a → nat_le (2 ^ 56) view.last_ticket ≡ b → is_store_full view ≡ c → nat_le 64 (length view.waiting) ≡ d
+    → tests_of view batch brought ≡ calm_tests view batch brought a b c d
+calm_same view batch brought a b c d sized calm p q r s = λ i. record (tests_of view batch brought) {
+  size = sized i;
+  stopping = option_map failure_of (calm i);
+  sequence = p i;
+  ticket = q i;
+  full = r i;
+  queue = s i;
+}
+
+-- a failure stands
+pub stopped_goes : (view : CoreView) (batch : Batch) (last_seq handed_seq : ℕ) (fault : Fault) → IsKnown view last_seq handed_seq → size_refusal batch ≡ None → view.failed ≡ Some fault
+    → TakesTurn view (Admitting batch (Stopped (failure_of fault))) view
+stopped_goes view batch last_seq handed_seq fault known sized failed =
+    refused_goes view batch last_seq handed_seq (Stopped (failure_of fault)) known tt
+    (λ i. answer_of (record (tests_of view batch (seq_brought view batch handed_seq)) { size = sized i; stopping = option_map failure_of (failed i) }))
+
+-- what the code knows behind the tests of size and failure
+pub record IsTested (view : CoreView) (batch : Batch) (last_seq handed_seq : ℕ) : Type 0 where
+  pub known : IsKnown view last_seq handed_seq
+  pub sized : size_refusal batch ≡ None
+  pub calm : view.failed ≡ None
 
 pub seq_spent : (view : CoreView) (batch : Batch) (last_seq handed_seq : ℕ) → IsTested view batch last_seq handed_seq → 2 ^ 56 < seq_brought view batch handed_seq
     → TakesTurn view (Admitting batch (Spent Sequence)) view
-seq_spent view batch last_seq handed_seq t over = turns_by_story view view (Admitting batch (Spent Sequence)) (λ beyond fits.
-    let is = seq_is view batch last_seq handed_seq beyond fits t.last t.handed in (
-      (tests (size_refusal batch) (stopping_of beyond.paranoid (failures_of view.failed)) _ _ _ true _ _ _ _ _ None t.sized (calm_stops view beyond t.calm) (is_lt (2 ^ 56) _ (omega (arith, over, is))) refl refl, refl),
-      same_stands view beyond fits,
-    ))
+seq_spent view batch last_seq handed_seq t over =
+    refused_goes view batch last_seq handed_seq (Spent Sequence) t.known tt
+    (ap answer_of (calm_same view batch _ true _ _ _ t.sized t.calm (is_lt (2 ^ 56) _ over) refl refl refl))
 
 pub ticket_spent : (view : CoreView) (batch : Batch) (last_seq handed_seq : ℕ) → IsTested view batch last_seq handed_seq → seq_brought view batch handed_seq ≤ 2 ^ 56 → 2 ^ 56 ≤ view.last_ticket
     → TakesTurn view (Admitting batch (Spent Ticket)) view
-ticket_spent view batch last_seq handed_seq t enough spent = turns_by_story view view (Admitting batch (Spent Ticket)) (λ beyond fits.
-    let is = seq_is view batch last_seq handed_seq beyond fits t.last t.handed in (
-      (tests (size_refusal batch) (stopping_of beyond.paranoid (failures_of view.failed)) _ _ _ false true _ _ _ _ None t.sized (calm_stops view beyond t.calm) (not_lt (2 ^ 56) _ (omega (arith, enough, is))) (is_le (2 ^ 56) view.last_ticket spent) refl, refl),
-      same_stands view beyond fits,
-    ))
+ticket_spent view batch last_seq handed_seq t enough spent =
+    refused_goes view batch last_seq handed_seq (Spent Ticket) t.known tt
+    (ap answer_of (calm_same view batch _ false true _ _ t.sized t.calm (not_lt (2 ^ 56) _ enough) (is_le (2 ^ 56) view.last_ticket spent) refl refl))
 
-pub queue_full : (view : CoreView) (batch : Batch) (last_seq handed_seq waiting : ℕ) → IsTested view batch last_seq handed_seq → waiting ≡ length view.waiting → 64 ≤ waiting
-    → seq_brought view batch handed_seq ≤ 2 ^ 56 → view.last_ticket < 2 ^ 56
+pub store_full : (view : CoreView) (batch : Batch) (last_seq handed_seq active immutables : ℕ) → IsTested view batch last_seq handed_seq → seq_brought view batch handed_seq ≤ 2 ^ 56
+    → view.last_ticket < 2 ^ 56 → is_store_full view ≡ true → active ≡ weight_of view.rows → immutables ≡ length view.immutable
+    → TakesTurn view (Admitting batch (Full active immutables)) view
+store_full view batch last_seq handed_seq active immutables t enough ticket full weight others =
+    subst (λ n. TakesTurn view (Admitting batch (Full n immutables)) view) (sym weight)
+    (subst (λ n. TakesTurn view (Admitting batch (Full (weight_of view.rows) n)) view) (sym others)
+    (refused_goes view batch last_seq handed_seq (Full (weight_of view.rows) (length view.immutable)) t.known tt
+    (ap answer_of (calm_same view batch _ false false true _ t.sized t.calm (not_lt (2 ^ 56) _ enough) (not_le (2 ^ 56) view.last_ticket ticket) full refl))))
+
+pub queue_full : (view : CoreView) (batch : Batch) (last_seq handed_seq waiting : ℕ) → IsTested view batch last_seq handed_seq → seq_brought view batch handed_seq ≤ 2 ^ 56
+    → view.last_ticket < 2 ^ 56 → is_store_full view ≡ false → waiting ≡ length view.waiting → 64 ≤ waiting
     → TakesTurn view (Admitting batch (QueueFull waiting)) view
-queue_full view batch last_seq handed_seq waiting t count full enough ticket =
-    subst (λ n. TakesTurn view (Admitting batch (QueueFull n)) view) (sym count) (turns_by_story view view (Admitting batch (QueueFull (length view.waiting))) (λ beyond fits.
-    let is = seq_is view batch last_seq handed_seq beyond fits t.last t.handed in (
-      (
-        tests (size_refusal batch) (stopping_of beyond.paranoid (failures_of view.failed)) _ _ _ false false true _ _ _ None t.sized (calm_stops view beyond t.calm) (not_lt (2 ^ 56) _ (omega (arith, enough, is))) (not_le (2 ^ 56) view.last_ticket ticket)
-            (is_le 64 (length view.waiting) (omega (arith, full, count))),
-        refl,
-      ),
-      same_stands view beyond fits,
-    )))
+queue_full view batch last_seq handed_seq waiting t enough ticket room count full =
+    subst (λ n. TakesTurn view (Admitting batch (QueueFull n)) view) (sym count)
+    (refused_goes view batch last_seq handed_seq (QueueFull (length view.waiting)) t.known tt
+    (ap answer_of (calm_same view batch _ false false false true t.sized t.calm (not_lt (2 ^ 56) _ enough) (not_le (2 ^ 56) view.last_ticket ticket) room
+    (is_le 64 (length view.waiting) (omega (arith, full, count))))))
 
-pub queued_goes : (view : CoreView) (batch : Batch) (last_seq handed_seq : ℕ) → IsTested view batch last_seq handed_seq → length view.waiting < 64
-    → seq_brought view batch handed_seq ≤ 2 ^ 56 → view.last_ticket < 2 ^ 56
+pub queued_goes : (view : CoreView) (batch : Batch) (last_seq handed_seq : ℕ) → IsTested view batch last_seq handed_seq → seq_brought view batch handed_seq ≤ 2 ^ 56
+    → view.last_ticket < 2 ^ 56 → is_store_full view ≡ false → length view.waiting < 64
     → TakesTurn view (Admitting batch (Queued (view.last_ticket + 1)))
     (record view { waiting = view.waiting ++ ticketed (view.last_ticket + 1) batch ∷ []; last_ticket = view.last_ticket + 1 })
-queued_goes view batch last_seq handed_seq t few enough ticket =
+queued_goes view batch last_seq handed_seq t enough ticket room few =
     turns_by_story view (record view { waiting = view.waiting ++ ticketed (view.last_ticket + 1) batch ∷ []; last_ticket = view.last_ticket + 1 })
     (Admitting batch (Queued (view.last_ticket + 1)))
-    (λ beyond fits.
-    let is = seq_is view batch last_seq handed_seq beyond fits t.last t.handed in (
+    (λ beyond fits. (
       (
         (
-          none_first (size_refusal batch) (stopping_of beyond.paranoid (failures_of view.failed)) _ _ _ _ _ _ t.sized (calm_stops view beyond t.calm) (not_lt (2 ^ 56) _ (omega (arith, enough, is))) (not_le (2 ^ 56) view.last_ticket ticket)
-              (not_le 64 (length view.waiting) few),
+          refusal_is view view.boot batch last_seq handed_seq beyond t.known.cleared fits t.known.last t.known.handed
+              ∙ ap answer_of (calm_same view batch _ false false false false t.sized t.calm (not_lt (2 ^ 56) _ enough) (not_le (2 ^ 56) view.last_ticket ticket) room (not_le 64 (length view.waiting) few)),
           refl,
         ),
         refl,
       ),
-      record { beyond = beyond; state_is = refl; fits = record { story = fits.story; group = fits.group } },
+      record { beyond = beyond; state_is = refl; fits = record { story = fits.story; segments = fits.segments; tables = fits.tables; opened = fits.opened; leads = fits.leads } },
     ))
+
+-- a store that boots takes none
+boots_first : (size : Option Admit) (rest : List (Option Admit)) → size ≡ None → first_some (size ∷ Some Booting ∷ rest) ≡ Some Booting
+boots_first size rest none = ap (λ (o : Option Admit). first_some (o ∷ Some Booting ∷ rest)) none
+
+booting_is : (view : CoreView) (boot : BootShown) (batch : Batch) (beyond : Beyond) → takes_writes boot ≡ false → size_refusal batch ≡ None
+    → refusal (state_of (record view { boot = boot }) beyond) batch ≡ Some Booting
+booting_is view Cleared batch beyond boots sized = absurd (cc boots)
+booting_is view ToStart batch beyond boots sized = boots_first (size_refusal batch) _ sized
+booting_is view (Running resumption) batch beyond boots sized = boots_first (size_refusal batch) _ sized
+booting_is view (Over failure) batch beyond boots sized = boots_first (size_refusal batch) _ sized
+
+pub boots_goes : (view : CoreView) (batch : Batch) → takes_writes view.boot ≡ false → size_refusal batch ≡ None → TakesTurn view (Admitting batch Booting) view
+boots_goes view batch boots sized = turns_by_story view view (Admitting batch Booting) (λ beyond fits.
+    refused_turn view batch Booting beyond tt fits (booting_is view view.boot batch beyond boots sized))
+
+pub is_clear : (boot : BootShown) → takes_writes boot ≡ true → boot ≡ Cleared
+is_clear Cleared is = refl
+is_clear ToStart is = absurd (cc is)
+is_clear (Running resumption) is = absurd (cc is)
+is_clear (Over failure) is = absurd (cc is)
 
 -- ---- an outcome is taken
 
-same_way : (ticket : ℕ) (group running : Option Group) (waiting : List Ticketed) → AreAlike group running
-    → on_its_way ticket group waiting ≡ list_any (λ other. other == ticket) (tickets_of_group running ++ map (λ (m : Ticketed). m.ticket) waiting)
-same_way ticket group running waiting alike = ap (λ (l : List ℕ). list_any (λ other. other == ticket) (l ++ tickets_of waiting)) (sym (same_tickets group running alike))
+same_way : (ticket : ℕ) (group : Option FlightShown) (waiting : List Ticketed)
+    → on_its_way ticket group waiting ≡ list_any (λ other. other == ticket) (tickets_of_group (running_of group) ++ map (λ (m : Ticketed). m.ticket) waiting)
+same_way ticket group waiting = ap (λ (l : List ℕ). list_any (λ other. other == ticket) (l ++ tickets_of waiting)) (sym (same_tickets group))
 
 pub taken_goes : (view : CoreView) (ticket : ℕ) (told : Outcome) → told ≡ outcome_told ticket view.outcomes view.group view.waiting
     → TakesTurn view (TakingOutcome ticket told) (record view { outcomes = filter (λ entry. not (entry.0 == ticket)) view.outcomes })
 taken_goes view ticket told is =
     turns_by_story view (record view { outcomes = filter (λ entry. not (entry.0 == ticket)) view.outcomes }) (TakingOutcome ticket told) (λ beyond fits. (
       (
-        is ∙ ap (λ b. unwrap_or (outcome_kept ticket view.outcomes) (if b then outcome.Waiting else outcome.Unknown)) (same_way ticket view.group beyond.running view.waiting fits.group),
+        is ∙ ap (λ b. unwrap_or (outcome_kept ticket view.outcomes) (if b then outcome.Waiting else outcome.Unknown)) (same_way ticket view.group view.waiting),
         refl,
       ),
-      record { beyond = beyond; state_is = refl; fits = record { story = fits.story; group = fits.group } },
+      record { beyond = beyond; state_is = refl; fits = record { story = fits.story; segments = fits.segments; tables = fits.tables; opened = fits.opened; leads = fits.leads } },
     ))
 
 kept_settled : (ticket : ℕ) (outcomes : List (ℕ × Outcome)) → AllByRecursion (λ (entry : ℕ × Outcome). IsSettled entry.1) outcomes
@@ -217,26 +332,27 @@ kept_settled ticket (entry ∷ outcomes) all P none some =
 unsettled : (o : Outcome) → o ≡ outcome.Waiting → IsSettled o → ⊥
 unsettled o is settled = subst IsSettled is settled
 
-some_left : (group : Option Flight) (waiting : List Ticketed) (ticket : ℕ)
-    → (if on_its_way ticket (flying group) waiting then outcome.Waiting else outcome.Unknown) ≡ outcome.Waiting
-    → 0 < calls_in (flying group) + 5 * length waiting
-some_left None [] ticket is = absurd cc
-some_left None (first ∷ rest) ticket is = omega arith
-some_left (Some flight) waiting ticket is = omega arith
+one_call : (flight : FlightShown) → IsPlanned flight.next flight.switches flight.sync → 0 < length (machine.left_of (group_of flight))
+one_call flight planned =
+    let left = ap (λ (l : List machine.Act). length l) (left_is flight.next flight.switches flight.sync planned) in
+    omega (arith, left)
+
+some_left : (group : Option FlightShown) (waiting : List Ticketed) (ticket : ℕ) (failed : Option Fault) → IsStaged group failed
+    → (if on_its_way ticket group waiting then outcome.Waiting else outcome.Unknown) ≡ outcome.Waiting
+    → 0 < calls_in group + 6 * length waiting
+some_left None [] ticket failed staged is = absurd cc
+some_left None (first ∷ rest) ticket failed staged is = omega arith
+some_left (Some flight) waiting ticket failed staged is = omega (arith, one_call flight staged.0)
 
 -- a ticket whose outcome is awaited is on its way
-pub waits_left : (group : Option Flight) (waiting : List Ticketed) (outcomes : List (ℕ × Outcome)) (ticket : ℕ)
+pub waits_left : (group : Option FlightShown) (waiting : List Ticketed) (outcomes : List (ℕ × Outcome)) (ticket : ℕ) (failed : Option Fault) → IsStaged group failed
     → AllByRecursion (λ (entry : ℕ × Outcome). IsSettled entry.1) outcomes
-    → outcome_told ticket outcomes (flying group) waiting ≡ outcome.Waiting → 0 < calls_in (flying group) + 5 * length waiting
-waits_left group waiting outcomes ticket all is =
-    let otherwise : Option Outcome → Outcome = λ o. unwrap_or o (if on_its_way ticket (flying group) waiting then outcome.Waiting else outcome.Unknown) in
-    kept_settled ticket outcomes all (0 < calls_in (flying group) + 5 * length waiting)
-    (λ none. some_left group waiting ticket (ap otherwise (sym none) ∙ is))
+    → outcome_told ticket outcomes group waiting ≡ outcome.Waiting → 0 < calls_in group + 6 * length waiting
+waits_left group waiting outcomes ticket failed staged all is =
+    let otherwise : Option Outcome → Outcome = λ o. unwrap_or o (if on_its_way ticket group waiting then outcome.Waiting else outcome.Unknown) in
+    kept_settled ticket outcomes all (0 < calls_in group + 6 * length waiting)
+    (λ none. some_left group waiting ticket failed staged (ap otherwise (sym none) ∙ is))
     (λ o some settled. absurd (unsettled o (ap otherwise (sym some) ∙ is) settled))
-
-pub none_there : {A : Type 0} (o : Option A) → is_some o ≡ false → o ≡ None
-none_there None h = refl
-none_there (Some value) h = cc
 
 pub where_ok : {T E P : Type 0} (r : Result T E) → is_err r ≡ false → OnOk r P → P
 where_ok (Ok value) ended h = h

@@ -6,8 +6,9 @@ use Rattle.keel_base.specs.declared.op.Op.TheVariants.{Put, Del}
 use Rattle.keel_base.specs.Weight.{AreAdmissible, IsWithinLimits}
 use Rattle.keel_batch.specs.Spelling.{IsBatch, IsOp}
 use Rattle.keel_group.specs.Queue.{Ticketed, batches_of}
-use Rattle.keel_machine.specs.Admission.{batches_of_group, ops_of, count_ops}
-use Rattle.keel_machine.specs.States.{Group}
+use Rattle.keel_machine.specs.Admission.{ops_of}
+use Rattle.keel_resume.specs.Drafts.{count_ops}
+use Rattle.keel_core.specs.Flights.{FlightShown, batches_flying}
 use Rattle.keel_core.specs.Queues.{batches_next}
 use Rattle.keel_core.proofs.Entering.{are_same}
 
@@ -32,7 +33,7 @@ pub is_batch : (seq : ℕ) (ops : List Op) → AreAdmissible ops → 1 ≤ seq �
 is_batch seq ops ok least most = record { first = least; some = ok.some; few = ok.few; last = most; each = ops_are ops ok.each }
 
 -- they are within those that are in flight and those that wait
-pub next_count : (waiting : List Ticketed) (group : Option Group)
-    → count_ops (ops_of (batches_next waiting group)) ≤ count_ops (ops_of (batches_of_group group)) + count_ops (ops_of (batches_of waiting))
-next_count waiting (Some group) = omega arith
+pub next_count : (waiting : List Ticketed) (group : Option FlightShown)
+    → count_ops (ops_of (batches_next waiting group)) ≤ count_ops (ops_of (batches_flying group)) + count_ops (ops_of (batches_of waiting))
+next_count waiting (Some flight) = omega arith
 next_count waiting None = let same = (are_same waiting).ops in omega (arith, same)

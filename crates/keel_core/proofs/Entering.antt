@@ -1,6 +1,6 @@
 -- What holds of a queue whose next group is formed, and how near what waits comes to its end.
-use Rattle.std.proofs.Common.{◌≡◌, ◌≢◌, ℕ, ◌+◌, ◌*◌, ◌<◌, ◌≤◌, ◌^◌, Bool, true, false, List, [], ◌∷◌, length, take, drop, Option, Some, None, refl, sym, ap, subst, ◌∙◌, arith}
-use Rattle.std.specs.Prelude.{IsNone}
+use Rattle.std.proofs.Common.{◌≡◌, ◌≢◌, ℕ, ◌+◌, ◌*◌, ◌<◌, ◌≤◌, ◌^◌, Bool, true, false, List, [], ◌∷◌, length, take, drop, Option, Some, None, refl, sym, ap, subst, ◌∙◌, arith, if◌then◌else◌}
+use Rattle.std.specs.Prelude.{IsSome}
 use Rattle.std.proofs.lemmas.List.{length-append, length-map}
 use Rattle.keel_base.specs.declared.failure.Fault.{Fault}
 use Rattle.keel_base.specs.declared.op.Batch.{Batch}
@@ -9,24 +9,27 @@ use Rattle.keel_group.specs.Queue.{Ticketed, batches_of, tickets_of}
 use Rattle.keel_group.proofs.Dividing.{all_of}
 use Rattle.keel_machine.specs.declared.steps.WriteStep.{WriteStep}
 use Rattle.keel_machine.specs.declared.steps.WriteStep.TheVariants as step
-use Rattle.keel_machine.specs.Admission.{batches_of_group, ops_of, count_ops, tickets_of_group}
+use Rattle.keel_machine.specs.Admission.{ops_of}
+use Rattle.keel_resume.specs.Drafts.{count_ops}
 use Rattle.keel_machine.specs.States as machine
-use Rattle.keel_machine.specs.States.{Group, left_of}
+use Rattle.keel_machine.specs.States.{left_of}
 use Rattle.keel_core.specs.declared.flight.Act.{Act}
-use Rattle.keel_core.specs.declared.flight.Act.TheVariants.{MakeLog, SyncDirectory, AddRecords, SyncLog}
+use Rattle.keel_core.specs.declared.flight.Act.TheVariants.{CloseLog, MakeLog, SyncDirectory, AddRecords, SyncLog}
 use Rattle.keel_core.specs.declared.log.OwnLog.{OwnLog}
 use Rattle.keel_core.specs.declared.queue.Queue.{Queue}
 use Rattle.keel_core.specs.declared.trail.Trail.{Trail}
-use Rattle.keel_core.specs.Flights.{act_of, flying, later_than, next_in}
-use Rattle.keel_core.specs.Orders.{HasLog, IsInOrder, IsStaged}
-use Rattle.keel_core.specs.Queues.{goes_on, next_group}
-use Rattle.keel_core.specs.Steps.{IsNext, added, added_step, done, done_step, formed, handed_over, stopped, tried}
-use Rattle.keel_core.specs.Views.{CoreView, ComesNearer, calls_left}
+use Rattle.keel_core.specs.Flights.{FlightShown, IsPlanned, act_of, batches_flying, flying, group_of, is_synced, later_than, next_flying, tickets_flying}
+use Rattle.keel_core.specs.Orders.{IsInOrder, IsStaged}
+use Rattle.keel_core.specs.Queues.{first_act, next_flight}
+use Rattle.keel_core.specs.Steps.{IsMade, IsRefused, NextIs, added, added_step, done, done_step, formed, handed_over, stopped, tried}
+use Rattle.keel_core.specs.Views.{BootShown, CanGoOn, Cleared, CoreView, ComesNearer, IsOnPlan, calls_left, is_full}
 use Rattle.keel_core.proofs.Forming.{IsCall, next_some}
 use Rattle.keel_mem.specs.Shown.{MemShown}
 use Rattle.keel_core.specs.Placing.{bytes_needed}
 use Rattle.keel_core.proofs.Lists.{count_ops-append}
 use Rattle.keel_core.proofs.Rooms.{bytes_needed-append}
+use Rattle.keel_core.proofs.Ordering.{still_cleared}
+use Rattle.keel_core.proofs.Standing.{IsInFlight, left_is}
 use Rattle.keel_core.proofs.Stories.{ops_of-append}
 
 -- ---- the next group and those that wait behind it are those that waited
@@ -58,42 +61,47 @@ are_same queue =
 
 -- ---- the order
 
+planned_first : (switches sync : Bool) → IsPlanned (first_act switches) switches sync
+planned_first true sync = refl
+planned_first false sync = tt
+
 -- what a queue is whose next group was formed
-pub record IsEntered (old new : Queue) (first : Act) : Type 0 where
+pub record IsEntered (old new : Queue) (switches : Bool) : Type 0 where
   pub none : flying old.group ≡ None
   pub waiting : new.waiting.items ≡ drop (next_size old.waiting.items) old.waiting.items
-  pub group : flying new.group ≡ Some (next_group old.waiting.items first)
-  pub next : next_in new.group ≡ Some first
+  pub group : flying new.group ≡ Some (next_flight old.waiting.items switches)
   pub job : new.job ≡ old.job + 1
   pub outcomes : new.outcomes ≡ old.outcomes
   pub ticket : new.last_ticket ≡ old.last_ticket
   pub each : EachIsAdmissible (next_batches old.waiting.items)
   pub few : next_size old.waiting.items ≤ 64
 
-pub entered_in_order : (mem : MemShown) (trail : Trail) (old new : Queue) (first : Act) (log : Option OwnLog) (failed : Option Fault) (last_seq handed_seq next_file : ℕ)
-    → IsInOrder mem trail old log failed last_seq handed_seq next_file → IsEntered old new first → old.job < 2 ^ 56 → HasLog first log → failed ≡ None
-    → IsInOrder mem trail new log failed last_seq handed_seq next_file
-entered_in_order mem trail old new first log failed last_seq handed_seq next_file order q below has calm =
+pub entered_in_order : (mem : MemShown) (trail : Trail) (old new : Queue) (switches : Bool) (segments : ℕ) (boot : BootShown) (log : Option OwnLog) (failed : Option Fault) (last_seq handed_seq next_file : ℕ)
+    → IsInOrder mem trail old segments boot log failed last_seq handed_seq next_file → boot ≡ Cleared → IsEntered old new switches → old.job < 2 ^ 56 → failed ≡ None
+    → IsInOrder mem trail new segments boot log failed last_seq handed_seq next_file
+entered_in_order mem trail old new switches segments boot log failed last_seq handed_seq next_file order cleared q below calm =
     let same = are_same old.waiting.items in
     let waiting = q.waiting in
     let group = q.group in
     let none = q.none in
     let all = all_of old.waiting.items in
-    let no_ops = ap (λ (g : Option Group). count_ops (ops_of (batches_of_group g))) none in
-    let no_bytes = ap (λ (g : Option Group). bytes_needed (ops_of (batches_of_group g))) none in
-    let no_batches = ap (λ (g : Option Group). length (batches_of_group g)) none in
-    let no_tickets = ap (λ (g : Option Group). length (tickets_of_group g)) none in
+    let no_ops = ap (λ (g : Option FlightShown). count_ops (ops_of (batches_flying g))) none in
+    let no_bytes = ap (λ (g : Option FlightShown). bytes_needed (ops_of (batches_flying g))) none in
+    let no_batches = ap (λ (g : Option FlightShown). length (batches_flying g)) none in
+    let no_tickets = ap (λ (g : Option FlightShown). length (tickets_flying g)) none in
     record {
+      still = still_cleared boot new.waiting.items (flying new.group) cleared;
+      logged = order.logged;
       seq = order.seq;
       handed = order.handed;
       enough = rw (group, waiting) (omega (arith, order.enough, same.ops, no_ops));
       limbo = order.limbo;
       group = rw group q.each;
       few = rw group (omega (arith, q.few, same.tickets, all.rest));
-      staged = subst (λ (next : Option Act). IsStaged next log failed) (sym q.next) (has, calm);
+      staged = rw group (planned_first switches (wants_sync (next_batches old.waiting.items)), calm);
       settled = rw q.outcomes order.settled;
       held = rw (group, waiting) (record {
-        placed = order.held.placed;
+        below = order.held.below;
         bytes = omega (arith, order.held.bytes, same.bytes, no_bytes);
         entries = omega (arith, order.held.entries, same.ops, no_ops);
       });
@@ -101,28 +109,52 @@ entered_in_order mem trail old new first log failed last_seq handed_seq next_fil
       outcome_room = rw (group, waiting, q.outcomes) (omega (arith, order.outcome_room, same.tickets, no_tickets));
       job = omega (arith, below, q.job);
       ticket = omega (arith, order.ticket, q.ticket);
+      few_segments = order.few_segments;
       file = order.file;
-      most_file = order.most_file;
     }
+
+-- the group that was formed is in flight
+pub formed_flies : (view : CoreView) → view.boot ≡ Cleared → view.failed ≡ None → IsInFlight (formed view) (first_act (is_full view))
+formed_flies view cleared calm = record { cleared = cleared; calm = calm; on_plan = planned_first (is_full view) _; next = refl }
+
+first_is : (view : CoreView) (group : Option FlightShown) (act : Act) → group ≡ None → NextIs act view group → act ≡ first_act (is_full view)
+first_is view None act none next = next
+first_is view (Some flight) act none next = absurd (cc none)
+
+pub first_flies : (view : CoreView) (act : Act) → view.boot ≡ Cleared → view.failed ≡ None → view.group ≡ None → NextIs act view view.group → IsInFlight (formed view) act
+first_flies view act cleared calm none next = subst (IsInFlight (formed view)) (sym (first_is view view.group act none next)) (formed_flies view cleared calm)
+
+-- the next act is that of the group in flight
+pub next_flies : (view : CoreView) (group : Option FlightShown) (act : Act) → IsSome group → NextIs act view group → next_flying group ≡ Some act
+next_flies view None act some next = absurd cc
+next_flies view (Some flight) act some next = ap Some (sym next)
+
+pub flies_on : (view : CoreView) (act : Act) → CanGoOn view → IsSome view.group → NextIs act view view.group → IsInFlight view act
+flies_on view act can some next = record { cleared = can.cleared; calm = can.calm; on_plan = can.on_plan; next = next_flies view view.group act some next }
 
 -- ---- nearer to the end
 
 -- a group that is formed has few calls before it, and fewer wait
-four_calls : (first : Act) (sync : Bool) → length (act_of first ∷ later_than first sync) ≤ 4
-four_calls MakeLog true = omega arith
-four_calls MakeLog false = omega arith
-four_calls (SyncDirectory log) true = omega arith
-four_calls (SyncDirectory log) false = omega arith
-four_calls AddRecords true = omega arith
-four_calls AddRecords false = omega arith
-four_calls SyncLog sync = omega arith
+few_later : (sync : Bool) → length (if sync then machine.SyncLog ∷ [] else []) ≤ 1
+few_later true = omega arith
+few_later false = omega arith
+
+five_switched : (waiting : List Ticketed) (sync : Bool) → length (machine.CloseLog ∷ machine.MakeLog ∷ machine.SyncDirectory ∷ machine.AddRecords ∷ (if sync then machine.SyncLog ∷ [] else [])) ≤ 5
+five_switched waiting sync = omega (arith, few_later sync)
+
+two_calls : (waiting : List Ticketed) (sync : Bool) → length (machine.AddRecords ∷ (if sync then machine.SyncLog ∷ [] else [])) ≤ 5
+two_calls waiting sync = omega (arith, few_later sync)
+
+five_calls : (waiting : List Ticketed) (switches : Bool) → length (left_of (group_of (next_flight waiting switches))) ≤ 5
+five_calls waiting true = five_switched waiting (wants_sync (next_batches waiting))
+five_calls waiting false = two_calls waiting (wants_sync (next_batches waiting))
 
 fewer_wait : (waiting : List Ticketed) → waiting ≢ [] → length (drop (next_size waiting) waiting) + 1 ≤ length waiting
 fewer_wait [] some = absurd (some refl)
 fewer_wait (first ∷ rest) some = omega (arith, (all_of (first ∷ rest)).rest, next_some first rest)
 
-formed_left : (first : Act) (view : CoreView) → view.waiting ≢ [] → calls_left (formed first view) ≤ 5 * length view.waiting
-formed_left first view some = omega (arith, fewer_wait view.waiting some, four_calls first (wants_sync (next_batches view.waiting)))
+formed_left : (view : CoreView) → view.waiting ≢ [] → calls_left (formed view) ≤ 6 * length view.waiting
+formed_left view some = omega (arith, fewer_wait view.waiting some, five_calls view.waiting (is_full view))
 
 through : (old mid new : CoreView) (made : WriteStep) → IsCall made → calls_left mid ≤ calls_left old → ComesNearer mid made new → ComesNearer old made new
 through old mid new (step.Moved job call) is less nearer = omega (arith, less, nearer)
@@ -130,72 +162,99 @@ through old mid new (step.Done job seq batches) is less nearer = omega (arith, l
 through old mid new (step.Failed failure) is less nearer = omega (arith, less, nearer)
 through old mid new step.Idle is less nearer = absurd is
 through old mid new (step.Turned batches failure) is less nearer = absurd is
+through old mid new (step.Full active immutables) is less nearer = absurd is
 through old mid new (step.Spent counter) is less nearer = absurd is
 through old mid new (step.Cancelled job current) is less nearer = absurd is
 through old mid new step.OutOfMemory is less nearer = absurd is
 
 -- a step whose first act forms its group brings nearer what the act brings nearer
-pub formed_nearer : (first : Act) (old now new : CoreView) (made : WriteStep) → now.waiting ≡ old.waiting → IsCall made → old.waiting ≢ [] → ComesNearer (formed first now) made new → ComesNearer old made new
-formed_nearer first old now new made same is some nearer =
-    let left = formed_left first now (subst (λ (l : List Ticketed). l ≢ []) (sym same) some) in
+pub formed_nearer : (old now new : CoreView) (made : WriteStep) → now.waiting ≡ old.waiting → IsCall made → old.waiting ≢ [] → ComesNearer (formed now) made new → ComesNearer old made new
+formed_nearer old now new made same is some nearer =
+    let left = formed_left now (subst (λ (l : List Ticketed). l ≢ []) (sym same) some) in
     let size = ap (λ (l : List Ticketed). length l) same in
-    through old (formed first now) new made is (omega (arith, left, size)) nearer
+    through old (formed now) new made is (omega (arith, left, size)) nearer
 
 added_call : (more : Bool) (view : CoreView) → IsCall (added_step more view)
 added_call true view = tt
 added_call false view = tt
 
 pub done_call : (act : Act) (view : CoreView) → IsCall (done_step act view)
+done_call CloseLog view = tt
 done_call MakeLog view = tt
 done_call (SyncDirectory log) view = tt
-done_call AddRecords view = added_call (goes_on view.group) (handed_over view)
+done_call AddRecords view = added_call (is_synced view.group) (handed_over view)
 done_call SyncLog view = tt
 
-gone_fewer : (waiting : ℕ) (act : machine.Act) (later : List machine.Act) (group : Group) → left_of group ≡ act ∷ later
-    → length (drop 1 (left_of group)) + waiting < length (left_of group) + waiting
-gone_fewer waiting act later group is =
-    let here = ap (λ (l : List machine.Act). length l) is in
-    let there = ap (λ (l : List machine.Act). length (drop 1 l)) is in
-    let one : length (act ∷ later) ≡ 1 + length later = omega arith in
-    let rest : length (drop 1 (act ∷ later)) ≡ length later = refl in
-    omega (arith, here, there, one, rest)
+-- the calls of a flight, by its act
+left_many : (flight : FlightShown) (act : Act) → IsPlanned flight.next flight.switches flight.sync → flight.next ≡ act
+    → length (left_of (group_of flight)) ≡ length (act_of act ∷ later_than act flight.sync)
+left_many flight act planned is =
+    ap (λ (l : List machine.Act). length l) (left_is flight.next flight.switches flight.sync planned) ∙ ap (λ (a : Act). length (act_of a ∷ later_than a flight.sync)) is
 
-over_fewer : (waiting : ℕ) (act : machine.Act) (later : List machine.Act) (group : Group) → left_of group ≡ act ∷ later → 0 + waiting < length (left_of group) + waiting
-over_fewer waiting act later group is =
-    let here = ap (λ (l : List machine.Act). length l) is in
-    let one : length (act ∷ later) ≡ 1 + length later = omega arith in
-    omega (arith, here, one)
+-- what a group with this act before it goes on to, in numbers
+abbrev calls_from : Act → Bool → ℕ
+calls_from act sync = length (act_of act ∷ later_than act sync)
 
-module _ (view : CoreView) (group : Group) (later : List machine.Act) where
-  abbrev flies : CoreView
-  flies = record view { group = Some group }
+module _ (view : CoreView) (tickets : List ℕ) (batches : List Batch) (switches : Bool) where
+  abbrev flight : Act → Bool → FlightShown
+  flight act sync = record { tickets = tickets; batches = batches; switches = switches; sync = sync; next = act }
 
-  added_nearer : (more : Bool) → left_of group ≡ machine.AddRecords ∷ later → ComesNearer flies (added_step more (handed_over flies)) (added more (handed_over flies))
-  added_nearer true is = gone_fewer (5 * length view.waiting) _ later group is
-  added_nearer false is = over_fewer (5 * length view.waiting) _ later group is
+  abbrev flies : Act → Bool → CoreView
+  flies act sync = record view { group = Some (flight act sync) }
 
-  went_nearer : (act : Act) → left_of group ≡ act_of act ∷ later → ComesNearer flies (done_step act flies) (done act flies)
-  went_nearer MakeLog is = gone_fewer (5 * length view.waiting) _ later group is
-  went_nearer (SyncDirectory log) is = gone_fewer (5 * length view.waiting) _ later group is
-  went_nearer AddRecords is = added_nearer (goes_on (Some group)) is
-  went_nearer SyncLog is = over_fewer (5 * length view.waiting) _ later group is
+  left_at : (act : Act) (sync : Bool) → IsPlanned act switches sync → calls_left (flies act sync) ≡ calls_from act sync + 6 * length view.waiting
+  left_at act sync planned = ap (λ n. n + 6 * length view.waiting) (left_many (flight act sync) act planned refl)
 
-  refused_nearer : (act : Act) (fault : Fault) → left_of group ≡ act_of act ∷ later → calls_left (stopped fault (tried act flies)) < calls_left flies
-  refused_nearer MakeLog fault is = over_fewer (5 * length view.waiting) _ later group is
-  refused_nearer (SyncDirectory log) fault is = over_fewer (5 * length view.waiting) _ later group is
-  refused_nearer AddRecords fault is = over_fewer (5 * length view.waiting) _ later group is
-  refused_nearer SyncLog fault is = over_fewer (5 * length view.waiting) _ later group is
+  went_nearer : (act : Act) (sync : Bool) → IsPlanned act switches sync → ComesNearer (flies act sync) (done_step act (flies act sync)) (done act (flies act sync))
+  went_nearer CloseLog sync planned = omega (arith, left_at CloseLog sync planned, left_at MakeLog sync planned)
+  went_nearer MakeLog sync planned = omega (arith, left_at MakeLog sync planned, left_at (SyncDirectory view.next_file) sync planned)
+  went_nearer (SyncDirectory log) sync planned = omega (arith, left_at (SyncDirectory log) sync planned, left_at AddRecords sync tt)
+  went_nearer AddRecords true planned = omega (arith, left_at AddRecords true planned, left_at SyncLog true refl)
+  went_nearer AddRecords false planned = omega (arith, left_at AddRecords false planned)
+  went_nearer SyncLog sync planned = omega (arith, left_at SyncLog sync planned)
 
-pub done_nearer : (act : Act) (view : CoreView) → IsNext act view.group → ComesNearer view (done_step act view) (done act view)
-done_nearer act view next =
-    let Goal : Option Group → Type 0 = λ (g : Option Group). ComesNearer (record view { group = g }) (done_step act (record view { group = g })) (done act (record view { group = g })) in
-    subst Goal (sym next.group_is) (went_nearer view next.flight (later_than act next.sync) act next.left_is)
+  refused_nearer : (act : Act) (sync : Bool) (fault : Fault) → IsPlanned act switches sync → calls_left (stopped fault (tried act (flies act sync))) < calls_left (flies act sync)
+  refused_nearer CloseLog sync fault planned = omega (arith, left_at CloseLog sync planned)
+  refused_nearer MakeLog sync fault planned = omega (arith, left_at MakeLog sync planned)
+  refused_nearer (SyncDirectory log) sync fault planned = omega (arith, left_at (SyncDirectory log) sync planned)
+  refused_nearer AddRecords sync fault planned = omega (arith, left_at AddRecords sync planned)
+  refused_nearer SyncLog sync fault planned = omega (arith, left_at SyncLog sync planned)
 
-pub failed_nearer : (act : Act) (fault : Fault) (view : CoreView) → IsNext act view.group → calls_left (stopped fault (tried act view)) < calls_left view
-failed_nearer act fault view next =
-    let Goal : Option Group → Type 0 = λ (g : Option Group). calls_left (stopped fault (tried act (record view { group = g }))) < calls_left (record view { group = g }) in
-    subst Goal (sym next.group_is) (refused_nearer view next.flight (later_than act next.sync) act fault next.left_is)
+-- of the group in flight that is on its plan
+of_flight : (view : CoreView) (group : Option FlightShown) (act : Act) (P : Option FlightShown → Type 0) → IsOnPlan group → next_flying group ≡ Some act
+    → ((flight : FlightShown) → IsPlanned act flight.switches flight.sync
+    → P (Some (record { tickets = flight.tickets; batches = flight.batches; switches = flight.switches; sync = flight.sync; next = act })))
+    → P group
+of_flight view None act P planned next shown = absurd (cc next)
+of_flight view (Some flight) act P planned next shown =
+    let is : flight.next ≡ act = cc next in
+    subst (λ (a : Act). P (Some (record { tickets = flight.tickets; batches = flight.batches; switches = flight.switches; sync = flight.sync; next = a })))
+    (sym is) (shown flight (subst (λ (a : Act). IsPlanned a flight.switches flight.sync) is planned))
 
-pub none_there : {A : Type 0} (o : Option A) → IsNone o → o ≡ None
-none_there None h = refl
-none_there (Some value) h = cc
+pub done_nearer : (act : Act) (view : CoreView) → IsOnPlan view.group → next_flying view.group ≡ Some act → ComesNearer view (done_step act view) (done act view)
+done_nearer act view planned next =
+    of_flight view view.group act (λ (g : Option FlightShown). ComesNearer (record view { group = g }) (done_step act (record view { group = g })) (done act (record view { group = g })))
+    planned next (λ flight on_plan. went_nearer view flight.tickets flight.batches flight.switches act flight.sync on_plan)
+
+pub failed_nearer : (act : Act) (fault : Fault) (view : CoreView) → IsOnPlan view.group → next_flying view.group ≡ Some act → calls_left (stopped fault (tried act view)) < calls_left view
+failed_nearer act fault view planned next =
+    of_flight view view.group act (λ (g : Option FlightShown). calls_left (stopped fault (tried act (record view { group = g }))) < calls_left (record view { group = g }))
+    planned next (λ flight on_plan. refused_nearer view flight.tickets flight.batches flight.switches act flight.sync fault on_plan)
+
+-- the same of the view from which the call was made
+made_left : (act : Act) (old now : CoreView) → IsMade act old now → calls_left now ≡ calls_left old
+made_left act old now made = ap calls_left made.view_is
+
+pub done_goes_nearer : (act : Act) (old now : CoreView) → IsInFlight old act → IsMade act old now → ComesNearer old (done_step act now) (done act now)
+done_goes_nearer act old now flies made =
+    let group : now.group ≡ old.group = ap (λ (v : CoreView). v.group) made.view_is in
+    let nearer = done_nearer act now (subst IsOnPlan (sym group) flies.on_plan) (ap next_flying group ∙ flies.next) in
+    let left = made_left act old now made in
+    through old now (done act now) (done_step act now) (done_call act now) (omega (arith, left)) nearer
+
+pub failed_goes_nearer : (act : Act) (fault : Fault) (old now : CoreView) → IsInFlight old act → IsRefused act fault old now → calls_left (stopped fault (tried act now)) < calls_left old
+failed_goes_nearer act fault old now flies made =
+    let group : now.group ≡ old.group = ap (λ (v : CoreView). v.group) made.view_is in
+    let nearer = failed_nearer act fault now (subst IsOnPlan (sym group) flies.on_plan) (ap next_flying group ∙ flies.next) in
+    let left = ap calls_left made.view_is in
+    omega (arith, nearer, left)

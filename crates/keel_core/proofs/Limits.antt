@@ -139,6 +139,8 @@ first_answer a rest answer is = ap (λ (o : Option Admit). first_some (o ∷ res
 bad_answers : (s : State) (batch : Batch) (answer : Admit) → IsBadSize answer → size_refusal batch ≡ Some answer → AdmitAnswers s batch answer
 bad_answers s batch (BadSize part length) bad is = first_answer (size_refusal batch) _ (BadSize part length) is
 bad_answers s batch (admit.Queued ticket) bad is = absurd bad
+bad_answers s batch admit.Booting bad is = absurd bad
+bad_answers s batch (admit.Full active immutables) bad is = absurd bad
 bad_answers s batch (admit.Stopped failure) bad is = absurd bad
 bad_answers s batch (admit.Spent counter) bad is = absurd bad
 bad_answers s batch (admit.QueueFull waiting) bad is = absurd bad
@@ -147,14 +149,16 @@ bad_answers s batch admit.OutOfMemory bad is = absurd bad
 same_behind : (s : State) (batch : Batch) (answer : Admit) → IsBadSize answer → admit_after s batch answer ≡ s
 same_behind s batch (BadSize part length) bad = refl
 same_behind s batch (admit.Queued ticket) bad = absurd bad
+same_behind s batch admit.Booting bad = absurd bad
+same_behind s batch (admit.Full active immutables) bad = absurd bad
 same_behind s batch (admit.Stopped failure) bad = absurd bad
 same_behind s batch (admit.Spent counter) bad = absurd bad
 same_behind s batch (admit.QueueFull waiting) bad = absurd bad
 same_behind s batch admit.OutOfMemory bad = absurd bad
 
 -- a batch that is refused for its size leaves all as it was
-pub refused_goes : (view : CoreView) (batch : Batch) (answer : Admit) → size_refusal batch ≡ Some answer → TakesTurn view (Admitting batch answer) view
-refused_goes view batch answer is =
+pub bad_size_goes : (view : CoreView) (batch : Batch) (answer : Admit) → size_refusal batch ≡ Some answer → TakesTurn view (Admitting batch answer) view
+bad_size_goes view batch answer is =
     let bad : IsBadSize answer = subst WhereBadSize is (bad_size batch) in
     turns_by_story view view (Admitting batch answer) (λ beyond fits.
     let s : State = state_of view beyond in (
@@ -162,6 +166,6 @@ refused_goes view batch answer is =
       record {
         beyond = beyond;
         state_is = ap (with_device view.device) (same_behind s batch answer bad);
-        fits = record { story = fits.story; group = fits.group };
+        fits = record { story = fits.story; segments = fits.segments; tables = fits.tables; opened = fits.opened; leads = fits.leads };
       },
     ))

@@ -3,31 +3,34 @@ use Rattle.std.proofs.Common.{◌≡◌, ℕ, ◌+◌, ◌<◌, ◌≤◌, ◌^�
 use Rattle.std.proofs.lemmas.List.{length-append}
 use Rattle.std.proofs.lemmas.List.Elements.{All-nil, All-append}
 use Rattle.std.specs.List.{AllByRecursion}
+use Rattle.std.specs.Prelude.{All, IsSome}
 use Rattle.keel_base.specs.declared.failure.Fault.{Fault}
 use Rattle.keel_base.specs.declared.op.Batch.{Batch}
 use Rattle.keel_base.specs.declared.op.Op.{Op}
+use Rattle.keel_base.specs.declared.row.Row.{Row}
 use Rattle.keel_base.specs.Weight.{AreAdmissible}
 use Rattle.keel_group.specs.Forming.{EachIsAdmissible}
 use Rattle.keel_group.specs.Queue.{Ticketed, ticketed, batches_of}
 use Rattle.keel_machine.specs.declared.answers.Outcome.{Outcome}
-use Rattle.keel_machine.specs.Admission.{batches_of_group, ops_of, count_ops, tickets_of_group}
-use Rattle.keel_machine.specs.States.{Group, Story, handed, point_of, published}
+use Rattle.keel_machine.specs.Admission.{ops_of}
+use Rattle.keel_resume.specs.Drafts.{batch_rows, count_ops}
 use Rattle.keel_machine.specs.WritingAfter.{done_each, seq_behind}
-use Rattle.keel_core.specs.declared.flight.Act.{Act}
 use Rattle.keel_core.specs.declared.log.OwnLog.{OwnLog}
 use Rattle.keel_core.specs.declared.queue.Queue.{Queue}
 use Rattle.keel_core.specs.declared.trail.Trail.{Trail}
-use Rattle.keel_core.specs.Flights.{flying, next_in}
-use Rattle.keel_core.specs.Orders.{IsInOrder, IsSettled, IsStaged}
-use Rattle.keel_core.specs.Queues.{given, without_batches}
+use Rattle.keel_core.specs.declared.flight.Act.{Act}
+use Rattle.keel_core.specs.declared.flight.Act.TheVariants.{AddRecords}
+use Rattle.keel_core.specs.Flights.{FlightShown, batches_flying, flying, gone_to, tickets_flying, without_batches}
+use Rattle.keel_core.specs.Orders.{IsInOrder, IsLogged, IsSettled, IsStaged}
+use Rattle.keel_core.specs.Queues.{given}
 use Rattle.keel_core.specs.Steps.{all_published}
-use Rattle.keel_core.specs.Trails.{limbo_in, shown}
-use Rattle.keel_core.specs.Views.{CoreView, point_in}
+use Rattle.keel_core.specs.Trails.{TrailShown, handed, limbo_in, published, seq_in, shown}
+use Rattle.keel_core.specs.Views.{BootShown, ToStart, Running, Over, Cleared, CoreView, IsStill, last_in}
 use Rattle.keel_mem.specs.Shown.{MemShown}
-use Rattle.keel_core.specs.Placing.{batch_rows, bytes_needed}
+use Rattle.keel_core.specs.Placing.{bytes_needed}
 use Rattle.keel_core.proofs.Lists.{count_ops-append}
 use Rattle.keel_core.proofs.Rooms.{HasRoomMore, handed_held, joined_held, joined_ops, over_held, published_held, turned_held}
-use Rattle.keel_core.proofs.Stories.{point_published, seq-fold_batches}
+use Rattle.keel_core.proofs.Stories as stories
 
 -- ---- outcomes
 
@@ -52,6 +55,33 @@ pub done_settled : (seq : ℕ) (tickets : List ℕ) (batches : List (List Op)) �
 done_settled seq [] batches = tt
 done_settled seq (ticket ∷ tickets) batches = (tt, done_settled (seq_behind seq batches) tickets (drop 1 batches))
 
+-- ---- before a store takes writes nothing waits
+
+still_none : (boot : BootShown) (waiting : List Ticketed) (group : Option FlightShown) → IsStill boot waiting group → IsStill boot waiting None
+still_none Cleared waiting group still = tt
+still_none ToStart waiting group still = (still.0, refl)
+still_none (Running resumption) waiting group still = (still.0, refl)
+still_none (Over failure) waiting group still = (still.0, refl)
+
+still_without : (boot : BootShown) (waiting : List Ticketed) (group : Option FlightShown) → IsStill boot waiting group → IsStill boot waiting (without_batches group)
+still_without Cleared waiting group still = tt
+still_without ToStart waiting group still = (still.0, ap without_batches still.1)
+still_without (Running resumption) waiting group still = (still.0, ap without_batches still.1)
+still_without (Over failure) waiting group still = (still.0, ap without_batches still.1)
+
+still_empty : (boot : BootShown) (waiting : List Ticketed) (group : Option FlightShown) → IsStill boot waiting group → IsStill boot [] group
+still_empty Cleared waiting group still = tt
+still_empty ToStart waiting group still = (refl, still.1)
+still_empty (Running resumption) waiting group still = (refl, still.1)
+still_empty (Over failure) waiting group still = (refl, still.1)
+
+pub still_cleared : (boot : BootShown) (waiting : List Ticketed) (group : Option FlightShown) → boot ≡ Cleared → IsStill boot waiting group
+still_cleared boot waiting group is = subst (λ (b : BootShown). IsStill b waiting group) (sym is) tt
+
+staged_without : (group : Option FlightShown) (failed : Option Fault) → IsStaged group failed → IsStaged (without_batches group) failed
+staged_without None failed staged = tt
+staged_without (Some flight) failed staged = staged
+
 -- ---- the group is over
 
 -- what a queue is behind a group that is over, with these outcomes
@@ -59,18 +89,20 @@ pub record IsOver (old new : Queue) (outcomes : List (ℕ × Outcome)) : Type 0 
   pub waiting : new.waiting.items ≡ old.waiting.items
   pub group : new.group ≡ None
   pub added : new.outcomes.items ≡ old.outcomes.items ++ outcomes
-  pub len : vec_len new.outcomes ≡ vec_len old.outcomes + length (tickets_of_group (flying old.group))
+  pub len : vec_len new.outcomes ≡ vec_len old.outcomes + length (tickets_flying (flying old.group))
   pub room : vec_capacity new.outcomes ≡ vec_capacity old.outcomes
   pub ticket : new.last_ticket ≡ old.last_ticket
   pub job : new.job ≡ old.job
 
-pub over_in_order : (mem : MemShown) (trail : Trail) (old new : Queue) (log : Option OwnLog) (failed behind : Option Fault) (last_seq handed_seq next_file : ℕ) (outcomes : List (ℕ × Outcome))
-    → IsInOrder mem trail old log failed last_seq handed_seq next_file → IsOver old new outcomes → AllSettled outcomes
-    → IsInOrder mem trail new log behind last_seq handed_seq next_file
-over_in_order mem trail old new log failed behind last_seq handed_seq next_file outcomes order q settled =
+pub over_in_order : (mem : MemShown) (trail : Trail) (old new : Queue) (segments : ℕ) (boot : BootShown) (log : Option OwnLog) (failed behind : Option Fault) (last_seq handed_seq next_file : ℕ) (outcomes : List (ℕ × Outcome))
+    → IsInOrder mem trail old segments boot log failed last_seq handed_seq next_file → IsOver old new outcomes → AllSettled outcomes
+    → IsInOrder mem trail new segments boot log behind last_seq handed_seq next_file
+over_in_order mem trail old new segments boot log failed behind last_seq handed_seq next_file outcomes order q settled =
     let waiting = q.waiting in
     let group = q.group in
     record {
+      still = rw (group, waiting) (still_none boot old.waiting.items (flying old.group) order.still);
+      logged = order.logged;
       seq = order.seq;
       handed = order.handed;
       enough = rw (group, waiting) (omega (arith, order.enough));
@@ -84,8 +116,8 @@ over_in_order mem trail old new log failed behind last_seq handed_seq next_file 
       outcome_room = rw (group, waiting) (omega (arith, order.outcome_room, q.len, q.room));
       job = omega (arith, order.job, q.job);
       ticket = omega (arith, order.ticket, q.ticket);
+      few_segments = order.few_segments;
       file = order.file;
-      most_file = order.most_file;
     }
 
 -- ---- batches are handed over
@@ -94,7 +126,6 @@ over_in_order mem trail old new log failed behind last_seq handed_seq next_file 
 pub record IsTakenFrom (old new : Queue) : Type 0 where
   pub waiting : new.waiting.items ≡ old.waiting.items
   pub group : flying new.group ≡ without_batches (flying old.group)
-  pub next : next_in new.group ≡ next_in old.group
   pub outcomes : new.outcomes ≡ old.outcomes
   pub ticket : new.last_ticket ≡ old.last_ticket
   pub job : new.job ≡ old.job
@@ -106,54 +137,55 @@ pub record IsHanded (trail behind : Trail) (batches : List Batch) : Type 0 where
   pub len : vec_len behind.batches ≡ vec_len trail.batches + length batches
   pub room : vec_capacity trail.batches ≤ vec_capacity behind.batches
 
-none_left : (group : Option Group) → batches_of_group (without_batches group) ≡ []
+none_left : (group : Option FlightShown) → batches_flying (without_batches group) ≡ []
 none_left None = refl
 none_left (Some group) = refl
 
-same_tickets : (group : Option Group) → tickets_of_group (without_batches group) ≡ tickets_of_group group
+same_tickets : (group : Option FlightShown) → tickets_flying (without_batches group) ≡ tickets_flying group
 same_tickets None = refl
 same_tickets (Some group) = refl
 
-pub handed_in_order : (mem : MemShown) (trail behind : Trail) (old new : Queue) (log : Option OwnLog) (failed : Option Fault) (last_seq handed_seq next_file more : ℕ) (batches : List Batch)
-    → IsInOrder mem trail old log failed last_seq handed_seq next_file → IsTakenFrom old new → batches ≡ batches_of_group (flying old.group) → more ≡ count_ops (ops_of batches)
+pub handed_in_order : (mem : MemShown) (trail behind : Trail) (old new : Queue) (segments : ℕ) (boot : BootShown) (log : Option OwnLog) (failed : Option Fault) (last_seq handed_seq next_file more : ℕ) (batches : List Batch)
+    → IsInOrder mem trail old segments boot log failed last_seq handed_seq next_file → IsTakenFrom old new → batches ≡ batches_flying (flying old.group) → more ≡ count_ops (ops_of batches)
     → IsHanded trail behind batches
-    → IsInOrder mem behind new log failed last_seq (handed_seq + more) next_file
-handed_in_order mem trail behind old new log failed last_seq handed_seq next_file more batches order q taken more_is h =
+    → IsInOrder mem behind new segments boot log failed last_seq (handed_seq + more) next_file
+handed_in_order mem trail behind old new segments boot log failed last_seq handed_seq next_file more batches order q taken more_is h =
     let waiting = q.waiting in
     let group = q.group in
     let none = none_left (flying old.group) in
     let tickets = same_tickets (flying old.group) in
     let ops = ap (λ (l : List Batch). count_ops (ops_of l)) taken in
     let size = ap length taken in
-    let now = ap (λ (t : Story). count_ops t.limbo) h.shows ∙ count_ops-append (shown trail).limbo (ops_of batches) in
+    let now = ap (λ (t : TrailShown). count_ops t.limbo) h.shows ∙ count_ops-append (shown trail).limbo (ops_of batches) in
     record {
-      seq = order.seq ∙ ap (λ (t : Story). (point_of t).seq) (sym h.shows);
+      still = rw (group, waiting) (still_without boot old.waiting.items (flying old.group) order.still);
+      logged = order.logged;
+      seq = order.seq ∙ ap (λ (t : TrailShown). seq_in t) (sym h.shows);
       handed = omega (arith, order.handed, more_is, now);
       enough = rw (group, none, waiting) (omega (arith, order.enough, more_is, ops));
       limbo = subst EachIsAdmissible (sym h.limbo) (All-append (λ (batch : Batch). AreAdmissible batch.ops) (limbo_in trail) batches order.limbo (subst EachIsAdmissible (sym taken) order.group));
       group = rw (group, none) (All-nil _);
       few = rw (group, tickets) order.few;
-      staged = subst (λ (next : Option Act). IsStaged next log failed) (sym q.next) order.staged;
+      staged = rw group (staged_without (flying old.group) failed order.staged);
       settled = rw q.outcomes order.settled;
       held = rw (h.shows, group, waiting) (handed_held mem (shown trail) (flying old.group) old.waiting.items batches taken none order.held);
       trail_room = rw (group, none, waiting) (omega (arith, order.trail_room, h.len, size, h.room));
       outcome_room = rw (group, tickets, waiting, q.outcomes) order.outcome_room;
       job = omega (arith, order.job, q.job);
       ticket = omega (arith, order.ticket, q.ticket);
+      few_segments = order.few_segments;
       file = order.file;
-      most_file = order.most_file;
     }
 
 -- ---- batches are published
 
-pub seq_published : (trail : Story) (sync : Bool) (last_seq handed_seq : ℕ) → last_seq ≡ (point_of trail).seq → handed_seq ≡ last_seq + count_ops trail.limbo
-    → handed_seq ≡ (point_of (published sync trail)).seq
-seq_published trail sync last_seq handed_seq last handed_is =
-    omega (arith, last, handed_is, ap (λ p. p.seq) (point_published trail sync), seq-fold_batches (point_of trail) trail.limbo)
+pub seq_published : (trail : TrailShown) (sync : Bool) (last_seq handed_seq : ℕ) → last_seq ≡ seq_in trail → handed_seq ≡ last_seq + count_ops trail.limbo
+    → handed_seq ≡ seq_in (published sync trail)
+seq_published trail sync last_seq handed_seq last handed_is = omega (arith, last, handed_is, stories.seq_published trail sync)
 
 -- the rows of what was in limbo are in the memtable
-pub record ArePlaced (mem behind : MemShown) (trail : Story) : Type 0 where
-  pub rows : behind.rows ≡ mem.rows ++ batch_rows ((point_of trail).seq + 1) trail.limbo
+pub record ArePlaced (mem behind : MemShown) (trail : TrailShown) : Type 0 where
+  pub rows : behind.rows ≡ mem.rows ++ batch_rows (seq_in trail + 1) trail.limbo
   pub bytes : behind.bytes + bytes_needed trail.limbo ≡ mem.bytes
   pub entries : behind.entries + count_ops trail.limbo ≡ mem.entries
 
@@ -165,15 +197,17 @@ pub record IsPublished (sync : Bool) (trail behind : Trail) : Type 0 where
   pub room : vec_capacity behind.batches ≡ vec_capacity trail.batches
 
 -- what was in limbo was published, and the group is over
-pub published_in_order : (mem more_mem : MemShown) (trail behind : Trail) (old new : Queue) (log : Option OwnLog) (failed : Option Fault) (last_seq handed_seq next_file : ℕ) (sync : Bool) (outcomes : List (ℕ × Outcome))
-    → IsInOrder mem trail old log failed last_seq handed_seq next_file → IsOver old new outcomes → AllSettled outcomes → IsPublished sync trail behind
+pub published_in_order : (mem more_mem : MemShown) (trail behind : Trail) (old new : Queue) (segments : ℕ) (boot : BootShown) (log : Option OwnLog) (failed : Option Fault) (last_seq handed_seq next_file : ℕ) (sync : Bool) (outcomes : List (ℕ × Outcome))
+    → IsInOrder mem trail old segments boot log failed last_seq handed_seq next_file → IsOver old new outcomes → AllSettled outcomes → IsPublished sync trail behind
     → ArePlaced mem more_mem (shown trail)
-    → IsInOrder more_mem behind new log failed handed_seq handed_seq next_file
-published_in_order mem more_mem trail behind old new log failed last_seq handed_seq next_file sync outcomes order q settled t placed =
-    let over = over_in_order mem trail old new log failed failed last_seq handed_seq next_file outcomes order q settled in
+    → IsInOrder more_mem behind new segments boot log failed handed_seq handed_seq next_file
+published_in_order mem more_mem trail behind old new segments boot log failed last_seq handed_seq next_file sync outcomes order q settled t placed =
+    let over = over_in_order mem trail old new segments boot log failed failed last_seq handed_seq next_file outcomes order q settled in
     record {
-      seq = seq_published (shown trail) sync last_seq handed_seq order.seq order.handed ∙ ap (λ (s : Story). (point_of s).seq) (sym t.shows);
-      handed = subst (λ (s : Story). handed_seq ≡ handed_seq + count_ops s.limbo) (sym t.shows) (sym (add-zero handed_seq));
+      still = over.still;
+      logged = over.logged;
+      seq = seq_published (shown trail) sync last_seq handed_seq order.seq order.handed ∙ ap (λ (s : TrailShown). seq_in s) (sym t.shows);
+      handed = subst (λ (s : TrailShown). handed_seq ≡ handed_seq + count_ops s.limbo) (sym t.shows) (sym (add-zero handed_seq));
       enough = over.enough;
       limbo = subst EachIsAdmissible (sym t.limbo) (All-nil _);
       group = over.group;
@@ -185,36 +219,36 @@ published_in_order mem more_mem trail behind old new log failed last_seq handed_
       outcome_room = over.outcome_room;
       job = over.job;
       ticket = over.ticket;
+      few_segments = over.few_segments;
       file = over.file;
-      most_file = over.most_file;
     }
 
 -- what is shown behind a publication
-pub published_view : (sync : Bool) (view : CoreView) (trail : Story) (waiting : List Ticketed) (group : Option Group) (outcomes : List (ℕ × Outcome)) (last_ticket job last : ℕ) (limbo : List (List Op))
-    → trail ≡ published sync view.trail → waiting ≡ view.waiting → group ≡ None → outcomes ≡ view.outcomes ++ done_each last (tickets_of_group view.group) limbo
-    → last_ticket ≡ view.last_ticket → job ≡ view.job → last ≡ (point_in view).seq → limbo ≡ view.trail.limbo
-    → (record view { trail = trail; waiting = waiting; group = group; outcomes = outcomes; last_ticket = last_ticket; job = job }) ≡ all_published sync view
-published_view sync view trail waiting group outcomes last_ticket job last limbo t w g o l j n m = λ i. record {
-  device = view.device;
+pub published_view : (sync : Bool) (view : CoreView) (trail : TrailShown) (rows : List Row) (waiting : List Ticketed) (group : Option FlightShown) (outcomes : List (ℕ × Outcome)) (last_ticket job last : ℕ) (limbo : List (List Op))
+    → trail ≡ published sync view.trail → rows ≡ view.rows ++ batch_rows (last + 1) limbo → waiting ≡ view.waiting → group ≡ None
+    → outcomes ≡ view.outcomes ++ done_each last (tickets_flying view.group) limbo
+    → last_ticket ≡ view.last_ticket → job ≡ view.job → last ≡ last_in view → limbo ≡ view.trail.limbo
+    → (record view { trail = trail; rows = rows; waiting = waiting; group = group; outcomes = outcomes; last_ticket = last_ticket; job = job }) ≡ all_published sync view
+published_view sync view trail rows waiting group outcomes last_ticket job last limbo t r w g o l j n m = λ i. record view {
   trail = t i;
-  log = view.log;
+  rows = (r ∙ (λ k. view.rows ++ batch_rows (n k + 1) (m k))) i;
   waiting = w i;
   group = g i;
-  outcomes = (o ∙ (λ k. view.outcomes ++ done_each (n k) (tickets_of_group view.group) (m k))) i;
+  outcomes = (o ∙ (λ k. view.outcomes ++ done_each (n k) (tickets_flying view.group) (m k))) i;
   last_ticket = l i;
   job = j i;
-  failed = view.failed;
-  next_file = view.next_file;
 }
 
 -- ---- an outcome was taken
 
-pub taken_in_order : (mem : MemShown) (trail : Trail) (old new : Queue) (log : Option OwnLog) (failed : Option Fault) (last_seq handed_seq next_file ticket : ℕ)
-    → IsInOrder mem trail old log failed last_seq handed_seq next_file → new.waiting.items ≡ old.waiting.items → new.group ≡ old.group
+pub taken_in_order : (mem : MemShown) (trail : Trail) (old new : Queue) (segments : ℕ) (boot : BootShown) (log : Option OwnLog) (failed : Option Fault) (last_seq handed_seq next_file ticket : ℕ)
+    → IsInOrder mem trail old segments boot log failed last_seq handed_seq next_file → new.waiting.items ≡ old.waiting.items → new.group ≡ old.group
     → new.outcomes.items ≡ filter (λ entry. not (entry.0 == ticket)) old.outcomes.items → vec_len new.outcomes ≤ vec_len old.outcomes
     → vec_capacity new.outcomes ≡ vec_capacity old.outcomes → new.last_ticket ≡ old.last_ticket → new.job ≡ old.job
-    → IsInOrder mem trail new log failed last_seq handed_seq next_file
-taken_in_order mem trail old new log failed last_seq handed_seq next_file ticket order waiting group outcomes len room last job = record {
+    → IsInOrder mem trail new segments boot log failed last_seq handed_seq next_file
+taken_in_order mem trail old new segments boot log failed last_seq handed_seq next_file ticket order waiting group outcomes len room last job = record {
+  still = rw (group, waiting) order.still;
+  logged = order.logged;
   seq = order.seq;
   handed = order.handed;
   limbo = order.limbo;
@@ -228,18 +262,20 @@ taken_in_order mem trail old new log failed last_seq handed_seq next_file ticket
   outcome_room = rw (group, waiting) (omega (arith, order.outcome_room, len, room));
   job = omega (arith, order.job, job);
   ticket = omega (arith, order.ticket, last);
+  few_segments = order.few_segments;
   file = order.file;
-  most_file = order.most_file;
 }
 
 -- ---- those that wait were turned away
 
-pub turned_in_order : (mem : MemShown) (trail : Trail) (old new : Queue) (log : Option OwnLog) (failed : Option Fault) (last_seq handed_seq next_file : ℕ) (outcomes : List (ℕ × Outcome))
-    → IsInOrder mem trail old log failed last_seq handed_seq next_file → new.waiting.items ≡ [] → new.group ≡ old.group
+pub turned_in_order : (mem : MemShown) (trail : Trail) (old new : Queue) (segments : ℕ) (boot : BootShown) (log : Option OwnLog) (failed : Option Fault) (last_seq handed_seq next_file : ℕ) (outcomes : List (ℕ × Outcome))
+    → IsInOrder mem trail old segments boot log failed last_seq handed_seq next_file → new.waiting.items ≡ [] → new.group ≡ old.group
     → new.outcomes.items ≡ old.outcomes.items ++ outcomes → AllSettled outcomes → vec_len new.outcomes ≡ vec_len old.outcomes + length old.waiting.items
     → vec_capacity new.outcomes ≡ vec_capacity old.outcomes → new.last_ticket ≡ old.last_ticket → new.job ≡ old.job
-    → IsInOrder mem trail new log failed last_seq handed_seq next_file
-turned_in_order mem trail old new log failed last_seq handed_seq next_file outcomes order waiting group added settled len room last job = record {
+    → IsInOrder mem trail new segments boot log failed last_seq handed_seq next_file
+turned_in_order mem trail old new segments boot log failed last_seq handed_seq next_file outcomes order waiting group added settled len room last job = record {
+  still = rw (group, waiting) (still_empty boot old.waiting.items (flying old.group) order.still);
+  logged = order.logged;
   seq = order.seq;
   handed = order.handed;
   limbo = order.limbo;
@@ -253,8 +289,8 @@ turned_in_order mem trail old new log failed last_seq handed_seq next_file outco
   outcome_room = rw (group, waiting) (omega (arith, order.outcome_room, len, room));
   job = omega (arith, order.job, job);
   ticket = omega (arith, order.ticket, last);
+  few_segments = order.few_segments;
   file = order.file;
-  most_file = order.most_file;
 }
 
 -- ---- a batch was queued
@@ -263,19 +299,19 @@ turned_in_order mem trail old new log failed last_seq handed_seq next_file outco
 pub record IsJoined (trail behind : Trail) (old new : Queue) (batch : Batch) : Type 0 where
   pub shows : shown behind ≡ shown trail
   pub limbo : limbo_in behind ≡ limbo_in trail
-  pub trail_room : vec_len behind.batches + (length (batches_of_group (flying old.group)) + length old.waiting.items + 1) ≤ vec_capacity behind.batches
+  pub trail_room : vec_len behind.batches + (length (batches_flying (flying old.group)) + length old.waiting.items + 1) ≤ vec_capacity behind.batches
   pub waiting : new.waiting.items ≡ old.waiting.items ++ ticketed (old.last_ticket + 1) batch ∷ []
   pub group : new.group ≡ old.group
   pub outcomes : new.outcomes.items ≡ old.outcomes.items
-  pub outcome_room : vec_len new.outcomes + (length (tickets_of_group (flying old.group)) + length old.waiting.items + 1) ≤ vec_capacity new.outcomes
+  pub outcome_room : vec_len new.outcomes + (length (tickets_flying (flying old.group)) + length old.waiting.items + 1) ≤ vec_capacity new.outcomes
   pub ticket : new.last_ticket ≡ old.last_ticket + 1
   pub job : new.job ≡ old.job
 
-pub joined_in_order : (mem more_mem : MemShown) (trail behind : Trail) (old new : Queue) (log : Option OwnLog) (failed : Option Fault) (last_seq handed_seq next_file : ℕ) (batch : Batch)
-    → IsInOrder mem trail old log failed last_seq handed_seq next_file → IsJoined trail behind old new batch
-    → handed_seq + (count_ops (ops_of (batches_of_group (flying old.group))) + count_ops (ops_of (batches_of old.waiting.items))) + length batch.ops ≤ 2 ^ 56 → old.last_ticket < 2 ^ 56 → HasRoomMore mem more_mem batch.ops
-    → IsInOrder more_mem behind new log failed last_seq handed_seq next_file
-joined_in_order mem more_mem trail behind old new log failed last_seq handed_seq next_file batch order r enough ticket room_more =
+pub joined_in_order : (mem more_mem : MemShown) (trail behind : Trail) (old new : Queue) (segments : ℕ) (boot : BootShown) (log : Option OwnLog) (failed : Option Fault) (last_seq handed_seq next_file : ℕ) (batch : Batch)
+    → IsInOrder mem trail old segments boot log failed last_seq handed_seq next_file → boot ≡ Cleared → IsJoined trail behind old new batch
+    → handed_seq + (count_ops (ops_of (batches_flying (flying old.group))) + count_ops (ops_of (batches_of old.waiting.items))) + length batch.ops ≤ 2 ^ 56 → old.last_ticket < 2 ^ 56 → HasRoomMore mem more_mem batch.ops
+    → IsInOrder more_mem behind new segments boot log failed last_seq handed_seq next_file
+joined_in_order mem more_mem trail behind old new segments boot log failed last_seq handed_seq next_file batch order cleared r enough ticket room_more =
     let group = r.group in
     let waiting = r.waiting in
     let member : List Ticketed = ticketed (old.last_ticket + 1) batch ∷ [] in
@@ -283,8 +319,10 @@ joined_in_order mem more_mem trail behind old new log failed last_seq handed_seq
     let size = length-append old.waiting.items member in
     let ops = joined_ops old.waiting.items (old.last_ticket + 1) batch in
     record {
-      seq = order.seq ∙ ap (λ (t : Story). (point_of t).seq) (sym r.shows);
-      handed = subst (λ (t : Story). handed_seq ≡ last_seq + count_ops t.limbo) (sym r.shows) order.handed;
+      still = still_cleared boot new.waiting.items (flying new.group) cleared;
+      logged = order.logged;
+      seq = order.seq ∙ ap (λ (t : TrailShown). seq_in t) (sym r.shows);
+      handed = subst (λ (t : TrailShown). handed_seq ≡ last_seq + count_ops t.limbo) (sym r.shows) order.handed;
       limbo = subst EachIsAdmissible (sym r.limbo) order.limbo;
       enough = rw (group, waiting) (omega (arith, enough, ops));
       group = rw group order.group;
@@ -296,6 +334,63 @@ joined_in_order mem more_mem trail behind old new log failed last_seq handed_seq
       outcome_room = rw (group, waiting) (omega (arith, r.outcome_room, size, one));
       job = omega (arith, order.job, r.job);
       ticket = omega (arith, ticket, r.ticket);
+      few_segments = order.few_segments;
       file = order.file;
-      most_file = order.most_file;
+    }
+
+-- ---- another segment is active
+
+-- what a queue is whose group goes on
+pub record IsMoved (old new : Queue) (next : Act) : Type 0 where
+  pub waiting : new.waiting ≡ old.waiting
+  pub group : flying new.group ≡ gone_to next (flying old.group)
+  pub outcomes : new.outcomes ≡ old.outcomes
+  pub ticket : new.last_ticket ≡ old.last_ticket
+  pub job : new.job ≡ old.job
+
+same_batches : (next : Act) (group : Option FlightShown) → batches_flying (gone_to next group) ≡ batches_flying group
+same_batches next None = refl
+same_batches next (Some flight) = refl
+
+tickets_same : (next : Act) (group : Option FlightShown) → tickets_flying (gone_to next group) ≡ tickets_flying group
+tickets_same next None = refl
+tickets_same next (Some flight) = refl
+
+staged_added : (group : Option FlightShown) (failed : Option Fault) → IsStaged group failed → IsStaged (gone_to AddRecords group) failed
+staged_added None failed staged = tt
+staged_added (Some flight) failed staged = (tt, staged.1)
+
+pub switched_in_order : (mem next_mem : MemShown) (trail : Trail) (old new : Queue) (segments more : ℕ) (boot : BootShown) (log next : Option OwnLog) (failed : Option Fault) (last_seq handed_seq next_file : ℕ)
+    → IsInOrder mem trail old segments boot log failed last_seq handed_seq next_file → IsMoved old new AddRecords → boot ≡ Cleared → IsSome next → more < 2 ^ 32
+    → next_mem.rows ≡ []
+    → bytes_needed (shown trail).limbo + bytes_needed (ops_of (batches_flying (flying old.group))) + bytes_needed (ops_of (batches_of old.waiting.items)) ≤ next_mem.bytes
+    → count_ops (shown trail).limbo + count_ops (ops_of (batches_flying (flying old.group))) + count_ops (ops_of (batches_of old.waiting.items)) ≤ next_mem.entries
+    → IsInOrder next_mem trail new more boot next failed last_seq handed_seq next_file
+switched_in_order mem next_mem trail old new segments more boot log next failed last_seq handed_seq next_file order q cleared has few rows bytes entries =
+    let group = q.group in
+    let batches = same_batches AddRecords (flying old.group) in
+    let tickets = tickets_same AddRecords (flying old.group) in
+    let waiting = q.waiting in
+    record {
+      still = still_cleared boot new.waiting.items (flying new.group) cleared;
+      logged = subst (λ (b : BootShown). IsLogged b next) (sym cleared) has;
+      seq = order.seq;
+      handed = order.handed;
+      enough = rw (group, waiting, batches) order.enough;
+      limbo = order.limbo;
+      group = rw (group, batches) order.group;
+      few = rw (group, tickets) order.few;
+      staged = rw group (staged_added (flying old.group) failed order.staged);
+      settled = rw q.outcomes order.settled;
+      held = record {
+        below = subst (All (λ (row : Row). row.seq < seq_in (shown trail) + 1)) (sym rows) (All-nil _);
+        bytes = rw (group, waiting, batches) bytes;
+        entries = rw (group, waiting, batches) entries;
+      };
+      trail_room = rw (group, waiting, batches) order.trail_room;
+      outcome_room = rw (group, waiting, tickets, q.outcomes) order.outcome_room;
+      few_segments = few;
+      job = omega (arith, order.job, q.job);
+      ticket = omega (arith, order.ticket, q.ticket);
+      file = order.file;
     }

@@ -1,23 +1,29 @@
 -- A step that rests.
-use Rattle.std.proofs.Common.{◌≡◌, ℕ, ◌<◌, List, [], ◌∷◌, length, Bool, true, false, Option, Some, None, refl, sym, ap, subst, ◌∙◌, arith, option_map, ◌==◌, ◌&&◌, ◌^◌, not, nat_le, is_some}
+use Rattle.std.proofs.Common.{◌≡◌, ◌≢◌, ℕ, ◌<◌, List, [], ◌∷◌, length, Bool, true, false, Option, Some, None, refl, sym, ap, subst, ◌∙◌, arith, option_map, ◌==◌, ◌&&◌, ◌^◌, nat_le}
+use Rattle.std.specs.Prelude.{IsSome}
 use Rattle.keel_base.specs.declared.failure.Failure.{Failure}
 use Rattle.keel_base.specs.declared.failure.Fault.{Fault}
 use Rattle.keel_base.specs.declared.failure.Fault.TheVariants.{Plain, NoSpace, SpaceLimit, Fenced, Retryable, DataLoss, Corrupt}
 use Rattle.keel_disk.specs.Seen.{IsQuiet}
+use Rattle.keel_group.specs.Queue.{Ticketed}
 use Rattle.keel_handler.specs.Failures.{stopping_of}
 use Rattle.keel_machine.specs.declared.steps.WriteStep.{WriteStep}
 use Rattle.keel_machine.specs.declared.steps.WriteStep.TheVariants as step
-use Rattle.keel_machine.specs.States as states
-use Rattle.keel_machine.specs.States.{State, Group, newest_log}
+use Rattle.keel_machine.specs.Admission.{active_weight}
+use Rattle.keel_machine.specs.States.{State}
 use Rattle.keel_machine.specs.Turns.{Answers, after, Writing}
 use Rattle.keel_machine.specs.Tests.{first_some, when, differing}
 use Rattle.keel_machine.specs.Writing.{draws, write_rest}
 use Rattle.keel_machine.specs.WritingAfter.{failure_of}
 use Rattle.keel_base.specs.declared.failure.Counter.TheVariants.{FileNumber, JobNumber}
-use Rattle.keel_core.specs.Flights.{logs_of}
+use Rattle.keel_mem.specs.Totals.{weight_of}
+use Rattle.keel_core.specs.declared.log.OwnLog.{OwnLog}
+use Rattle.keel_core.specs.Flights.{FlightShown, log_shown}
+use Rattle.keel_core.specs.Orders.{IsLogged, IsStaged}
 use Rattle.keel_core.specs.Steps.{rested}
-use Rattle.keel_core.specs.Views.{AreAlike, Beyond, CoreView, StandsFor, TakesTurn, ComesNearer, IsRest, failures_of, nothing_beyond, state_of, rest_of, Finds, calls_left}
+use Rattle.keel_core.specs.Views.{Beyond, BootShown, ToStart, Running, Over, Cleared, CoreView, CanGoOn, Fits, IsOnPlan, IsStill, StandsFor, TakesTurn, ComesNearer, IsRest, draws_next, failures_in, failures_of, state_of, rest_of, Finds, calls_left}
 use Rattle.keel_core.proofs.Calling.{quiet_same}
+use Rattle.keel_core.proofs.Segmenting.{active_weighs, as_many}
 
 -- the failure of a log stops writes, whether doubtful ones are taken as severe or not
 stops : (paranoid : Bool) (fault : Fault) → stopping_of paranoid (failure_of fault ∷ []) ≡ Some (failure_of fault)
@@ -40,57 +46,80 @@ pub stopping_is : (paranoid : Bool) (failed : Option Fault) → stopping_of para
 stopping_is paranoid None = refl
 stopping_is paranoid (Some fault) = stops paranoid fault
 
--- the answer of a step without a group, by the failure that stops writes
-abbrev rest_with : CoreView → Option ℕ → Option Failure → Option WriteStep
-rest_with view held stopping = first_some (
+-- ---- what a core knows of a store that takes writes
+
+pub is_cleared : (boot : BootShown) (waiting : List Ticketed) (group : Option FlightShown) → IsStill boot waiting group → (group ≡ None → waiting ≢ []) → boot ≡ Cleared
+is_cleared Cleared waiting group still some = refl
+is_cleared ToStart waiting group still some = absurd (some still.1 still.0)
+is_cleared (Running resumption) waiting group still some = absurd (some still.1 still.0)
+is_cleared (Over failure) waiting group still some = absurd (some still.1 still.0)
+
+pub log_there : (boot : BootShown) (log : Option OwnLog) → IsLogged boot log → boot ≡ Cleared → IsSome (log_shown log)
+log_there Cleared None logged is = absurd cc
+log_there Cleared (Some own) logged is = refl
+log_there ToStart log logged is = absurd (cc is)
+log_there (Running resumption) log logged is = absurd (cc is)
+log_there (Over failure) log logged is = absurd (cc is)
+
+-- ---- what it answers
+
+-- the answer of a step without a group, by the failure that stops writes, the weight of the active segment, and how many
+-- others there are
+abbrev rest_with : CoreView → Option ℕ → Option Failure → ℕ → ℕ → Option WriteStep
+rest_with view held stopping weight others = first_some (
     option_map (λ job. step.Cancelled job view.job) (differing held view.job)
     ∷ first_some (
     when (length view.waiting == 0) step.Idle
     ∷ option_map (λ failure. step.Turned (length view.waiting) failure) stopping
+    ∷ when (nat_le view.options.write_buffer weight && nat_le view.options.max_immutables others) (step.Full weight others)
     ∷ when (nat_le (2 ^ 56) view.job) (step.Spent JobNumber)
-    ∷ when (not (is_some (newest_log (logs_of view.log (is_some view.failed)))) && nat_le (2 ^ 56) view.next_file) (step.Spent FileNumber)
+    ∷ when (nat_le view.options.write_buffer weight && nat_le (2 ^ 56) view.next_file) (step.Spent FileNumber)
     ∷ [])
-    ∷ [])
-
--- the answer of a step with one, by the calls that it has left
-abbrev rest_in : CoreView → Option ℕ → List states.Act → Option WriteStep
-rest_in view held left = first_some (
-    option_map (λ job. step.Cancelled job view.job) (differing held view.job)
-    ∷ first_some (when (draws left && nat_le (2 ^ 56) view.next_file) (step.Spent FileNumber) ∷ [])
     ∷ [])
 
 -- what a step answers without a call depends on what the core shows
-same_rest : (view : CoreView) (beyond : Beyond) (group running : Option Group) (held : Option ℕ) → AreAlike group running
-    → write_rest (state_of view (record beyond { running = running })) held ≡ write_rest (state_of (record view { group = group }) (nothing_beyond (record view { group = group }))) held
-same_rest view beyond None None held alike = ap (rest_with view held) (stopping_is beyond.paranoid view.failed ∙ sym (stopping_is false view.failed))
-same_rest view beyond None (Some running) held alike = absurd alike
-same_rest view beyond (Some group) None held alike = absurd alike
-same_rest view beyond (Some group) (Some running) held alike = ap (rest_in view held) alike.left
+same_rest : (view : CoreView) (boot : BootShown) (waiting : List Ticketed) (group : Option FlightShown) (beyond : Beyond) (held : Option ℕ) → IsStill boot waiting group
+    → Fits (record view { boot = boot; waiting = waiting; group = group }) beyond
+    → write_rest (state_of (record view { boot = boot; waiting = waiting; group = group }) beyond) held ≡ rest_of (record view { boot = boot; waiting = waiting; group = group }) held
+same_rest view Cleared waiting None beyond held still fits =
+    let weight = active_weighs beyond.in_tables view.immutable beyond.immutable view.rows beyond.active _ fits.segments in
+    let others = as_many beyond.in_tables view.immutable beyond.immutable view.rows beyond.active _ fits.segments in
+    let stopping = stopping_is view.options.paranoid view.failed in
+    λ i. rest_with (record view { boot = Cleared; waiting = waiting; group = None }) held (stopping i) (weight i) (others i)
+same_rest view Cleared waiting (Some flight) beyond held still fits = refl
+same_rest view ToStart [] None beyond held still fits = refl
+same_rest view ToStart waiting (Some flight) beyond held still fits = absurd (cc (still.1))
+same_rest view ToStart (first ∷ rest) None beyond held still fits = absurd (cc (still.0))
+same_rest view (Running resumption) [] None beyond held still fits = refl
+same_rest view (Running resumption) waiting (Some flight) beyond held still fits = absurd (cc (still.1))
+same_rest view (Running resumption) (first ∷ rest) None beyond held still fits = absurd (cc (still.0))
+same_rest view (Over failure) [] None beyond held still fits = refl
+same_rest view (Over failure) waiting (Some flight) beyond held still fits = absurd (cc (still.1))
+same_rest view (Over failure) (first ∷ rest) None beyond held still fits = absurd (cc (still.0))
 
-pub rest_same : (view : CoreView) (s : State) (held : Option ℕ) → StandsFor view s → write_rest s held ≡ rest_of view held
-rest_same view s held stands = ap (λ (t : State). write_rest t held) stands.state_is ∙ same_rest view stands.beyond view.group stands.beyond.running held stands.fits.group
+pub rest_same : (view : CoreView) (s : State) (held : Option ℕ) → IsStill view.boot view.waiting view.group → StandsFor view s → write_rest s held ≡ rest_of view held
+rest_same view s held still stands =
+    ap (λ (t : State). write_rest t held) stands.state_is ∙ same_rest view view.boot view.waiting view.group stands.beyond held still stands.fits
 
 turned_stands : (view : CoreView) (batches : ℕ) (failure : Failure) (s : State) → StandsFor view s
     → StandsFor (rested (step.Turned batches failure) view) (after s (Writing None (step.Turned batches failure)) view.device)
 turned_stands view batches failure s stands = record {
   beyond = stands.beyond;
   state_is = ap (λ (t : State). after t (Writing None (step.Turned batches failure)) view.device) stands.state_is;
-  fits = record { story = stands.fits.story; group = stands.fits.group };
+  fits = record { story = stands.fits.story; segments = stands.fits.segments; tables = stands.fits.tables; opened = stands.fits.opened; leads = stands.fits.leads };
 }
 
-still : (view : CoreView) (s : State) (made : WriteStep) → StandsFor view s → after s (Writing None made) view.device ≡ s → StandsFor view (after s (Writing None made) view.device)
-still view s made stands same = subst (StandsFor view) (sym same) stands
-
-same_state : (view : CoreView) (s : State) → StandsFor view s → (record s { device = view.device }) ≡ s
+pub same_state : (view : CoreView) (s : State) → StandsFor view s → (record s { device = view.device }) ≡ s
 same_state view s stands = subst (λ (t : State). (record t { device = view.device }) ≡ t) (sym stands.state_is) refl
 
-quiet_in : (view : CoreView) (s : State) → StandsFor view s → IsQuiet s.device None view.device
+pub quiet_in : (view : CoreView) (s : State) → StandsFor view s → IsQuiet s.device None view.device
 quiet_in view s stands = subst (λ (t : State). IsQuiet t.device None view.device) (sym stands.state_is) (quiet_same view.device)
 
 rest_turns : (view : CoreView) (made : WriteStep) (s : State) (held : Option ℕ) → IsRest made → StandsFor view s → write_rest s held ≡ Some made
     → Answers s (Writing held made) (rested made view).device × StandsFor (rested made view) (after s (Writing held made) (rested made view).device)
 rest_turns view step.Idle s held rests stands is = (record { first = is; quiet = quiet_in view s stands }, subst (StandsFor view) (sym (same_state view s stands)) stands)
 rest_turns view (step.Turned batches failure) s held rests stands is = (record { first = is; quiet = quiet_in view s stands }, turned_stands view batches failure s stands)
+rest_turns view (step.Full active immutables) s held rests stands is = (record { first = is; quiet = quiet_in view s stands }, subst (StandsFor view) (sym (same_state view s stands)) stands)
 rest_turns view (step.Spent counter) s held rests stands is = (record { first = is; quiet = quiet_in view s stands }, subst (StandsFor view) (sym (same_state view s stands)) stands)
 rest_turns view (step.Cancelled job current) s held rests stands is = (record { first = is; quiet = quiet_in view s stands }, subst (StandsFor view) (sym (same_state view s stands)) stands)
 rest_turns view (step.Moved job call) s held rests stands is = absurd rests
@@ -98,8 +127,9 @@ rest_turns view (step.Done job seq batches) s held rests stands is = absurd rest
 rest_turns view (step.Failed failure) s held rests stands is = absurd rests
 rest_turns view step.OutOfMemory s held rests stands is = absurd rests
 
-pub rest_goes : (view : CoreView) (made : WriteStep) (held : Option ℕ) → IsRest made → Some made ≡ rest_of view held → TakesTurn view (Writing held made) (rested made view)
-rest_goes view made held rests is = record { goes = λ s stands. rest_turns view made s held rests stands (rest_same view s held stands ∙ sym is) }
+pub rest_goes : (view : CoreView) (made : WriteStep) (held : Option ℕ) → IsStill view.boot view.waiting view.group → IsRest made → Some made ≡ rest_of view held
+    → TakesTurn view (Writing held made) (rested made view)
+rest_goes view made held still rests is = record { goes = λ s stands. rest_turns view made s held rests stands (rest_same view s held still stands ∙ sym is) }
 
 turned_nearer : (view : CoreView) (batches : ℕ) (failure : Failure) → 0 < length view.waiting → calls_left (rested (step.Turned batches failure) view) < calls_left view
 turned_nearer view batches failure some = omega (arith, some)
@@ -107,6 +137,7 @@ turned_nearer view batches failure some = omega (arith, some)
 pub rest_nearer : (view : CoreView) (made : WriteStep) → IsRest made → Finds view made → ComesNearer view made (rested made view)
 rest_nearer view step.Idle rests finds = finds
 rest_nearer view (step.Turned batches failure) rests finds = turned_nearer view batches failure finds
+rest_nearer view (step.Full active immutables) rests finds = tt
 rest_nearer view (step.Spent counter) rests finds = tt
 rest_nearer view (step.Cancelled job current) rests finds = tt
 rest_nearer view (step.Moved job call) rests finds = absurd rests

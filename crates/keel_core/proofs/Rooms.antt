@@ -1,21 +1,21 @@
--- The memtable is the fold of the published batches, and has the room for those on their way.
+-- The memtable has the room for the batches on their way.
 use Rattle.std.proofs.Common.{◌≡◌, ℕ, ◌+◌, ◌<◌, Bool, List, [], ◌∷◌, ◌++◌, length, Option, None, refl, sym, ap, subst, ◌∙◌, arith, append_assoc, append-nil}
 use Rattle.std.specs.Prelude.{All}
 use Rattle.keel_base.specs.declared.op.Batch.{Batch}
 use Rattle.keel_base.specs.declared.op.Op.{Op}
 use Rattle.keel_base.specs.declared.row.Row.{Row}
-use Rattle.keel_base.specs.Points.{Point, after_batch, fold_batches}
-use Rattle.keel_base.specs.Rows.{IsMapOf, op_row, op_rows}
+use Rattle.keel_base.specs.Rows.{op_row, op_rows}
 use Rattle.keel_group.specs.Queue.{Ticketed, ticketed, batches_of}
-use Rattle.keel_machine.specs.Admission.{batches_of_group, count_ops, ops_of}
-use Rattle.keel_machine.specs.States.{Group, Story, handed, point_of, published}
+use Rattle.keel_machine.specs.Admission.{ops_of}
+use Rattle.keel_resume.specs.Drafts.{batch_rows, count_ops}
 use Rattle.keel_mem.specs.Needs.{bytes_of}
 use Rattle.keel_mem.specs.Shown.{MemShown}
-use Rattle.keel_mem.proofs.Folding.{below_next, rows_fold}
-use Rattle.keel_core.specs.Placing.{IsHeld, IsPlaced, batch_rows, bytes_needed}
-use Rattle.keel_core.specs.Queues.{without_batches}
+use Rattle.keel_mem.proofs.Folding.{below_next}
+use Rattle.keel_core.specs.Flights.{FlightShown, batches_flying, without_batches}
+use Rattle.keel_core.specs.Orders.{IsHeld}
+use Rattle.keel_core.specs.Placing.{bytes_needed}
+use Rattle.keel_core.specs.Trails.{TrailShown, handed, published, seq_in}
 use Rattle.keel_core.proofs.Lists.{count_ops-append}
-use Rattle.keel_core.proofs.Stories.{point_published}
 
 -- ---- rows of batches
 
@@ -27,28 +27,14 @@ below_ops rows seq (op ∷ ops) below =
     subst (All (λ (row : Row). row.seq < seq + length (op ∷ ops))) (append_assoc rows (op_row seq op ∷ []) (op_rows (seq + 1) ops))
     (subst (λ n. All (λ (row : Row). row.seq < n) ((rows ++ op_row seq op ∷ []) ++ op_rows (seq + 1) ops)) number rest)
 
--- the rows of one batch more
-pub placed_next : (rows : List Row) (point : Point) (ops : List Op) → IsMapOf rows point.values → All (λ row. row.seq < point.seq + 1) rows
-    → IsMapOf (rows ++ op_rows (point.seq + 1) ops) (after_batch point ops).values × All (λ row. row.seq < (after_batch point ops).seq + 1) (rows ++ op_rows (point.seq + 1) ops)
-placed_next rows point ops map below = (
-  rows_fold rows point.values (point.seq + 1) ops map below,
-  subst (λ n. All (λ (row : Row). row.seq < n) (rows ++ op_rows (point.seq + 1) ops)) (omega arith) (below_ops rows (point.seq + 1) ops below),
-)
-
--- the rows of all of them
-pub all_placed : (rows : List Row) (point : Point) (batches : List (List Op)) → IsMapOf rows point.values → All (λ row. row.seq < point.seq + 1) rows
-    → IsMapOf (rows ++ batch_rows (point.seq + 1) batches) (fold_batches point batches).values × All (λ row. row.seq < (fold_batches point batches).seq + 1) (rows ++ batch_rows (point.seq + 1) batches)
-all_placed rows point [] map below = (subst (λ l. IsMapOf l point.values) (sym (append-nil rows)) map, subst (All (λ (row : Row). row.seq < point.seq + 1)) (sym (append-nil rows)) below)
-all_placed rows point (ops ∷ batches) map below =
-    let next = placed_next rows point ops map below in
-    let rest = all_placed (rows ++ op_rows (point.seq + 1) ops) (after_batch point ops) batches next.0 next.1 in
-    let number : point.seq + length ops + 1 ≡ point.seq + 1 + length ops = omega arith in
-    let same : (rows ++ op_rows (point.seq + 1) ops) ++ batch_rows (point.seq + length ops + 1) batches ≡ rows ++ (op_rows (point.seq + 1) ops ++ batch_rows (point.seq + 1 + length ops) batches) =
-    append_assoc rows (op_rows (point.seq + 1) ops) (batch_rows (point.seq + length ops + 1) batches) ∙ ap (λ n. rows ++ (op_rows (point.seq + 1) ops ++ batch_rows n batches)) number in
-    let after = fold_batches (after_batch point ops) batches in (
-      subst (λ l. IsMapOf l after.values) same rest.0,
-      subst (All (λ (row : Row). row.seq < after.seq + 1)) same rest.1,
-    )
+-- the rows of batches more
+pub below_batches : (rows : List Row) (seq : ℕ) (batches : List (List Op)) → All (λ row. row.seq < seq) rows → All (λ row. row.seq < seq + count_ops batches) (rows ++ batch_rows seq batches)
+below_batches rows seq [] below = subst (All (λ (row : Row). row.seq < seq + 0)) (sym (append-nil rows)) (subst (λ n. All (λ (row : Row). row.seq < n) rows) (omega arith) below)
+below_batches rows seq (ops ∷ batches) below =
+    let rest = below_batches (rows ++ op_rows seq ops) (seq + length ops) batches (below_ops rows seq ops below) in
+    let number : seq + length ops + count_ops batches ≡ seq + count_ops (ops ∷ batches) = omega arith in
+    subst (All (λ (row : Row). row.seq < seq + count_ops (ops ∷ batches))) (append_assoc rows (op_rows seq ops) (batch_rows (seq + length ops) batches))
+    (subst (λ n. All (λ (row : Row). row.seq < n) ((rows ++ op_rows seq ops) ++ batch_rows (seq + length ops) batches)) number rest)
 
 -- ---- room
 
@@ -60,14 +46,14 @@ bytes_needed-append (ops ∷ front) back =
     let right : bytes_needed (ops ∷ front) ≡ bytes_of ops + bytes_needed front = refl in
     omega (arith, rest, left, right)
 
-pub over_held : (mem : MemShown) (trail : Story) (group : Option Group) (waiting : List Ticketed) → IsHeld mem trail group waiting → IsHeld mem trail None waiting
-over_held mem trail group waiting h = record { placed = h.placed; bytes = omega (arith, h.bytes); entries = omega (arith, h.entries) }
+pub over_held : (mem : MemShown) (trail : TrailShown) (group : Option FlightShown) (waiting : List Ticketed) → IsHeld mem trail group waiting → IsHeld mem trail None waiting
+over_held mem trail group waiting h = record { below = h.below; bytes = omega (arith, h.bytes); entries = omega (arith, h.entries) }
 
-pub turned_held : (mem : MemShown) (trail : Story) (group : Option Group) (waiting : List Ticketed) → IsHeld mem trail group waiting → IsHeld mem trail group []
-turned_held mem trail group waiting h = record { placed = h.placed; bytes = omega (arith, h.bytes); entries = omega (arith, h.entries) }
+pub turned_held : (mem : MemShown) (trail : TrailShown) (group : Option FlightShown) (waiting : List Ticketed) → IsHeld mem trail group waiting → IsHeld mem trail group []
+turned_held mem trail group waiting h = record { below = h.below; bytes = omega (arith, h.bytes); entries = omega (arith, h.entries) }
 
-pub handed_held : (mem : MemShown) (trail : Story) (group : Option Group) (waiting : List Ticketed) (batches : List Batch)
-    → batches ≡ batches_of_group group → batches_of_group (without_batches group) ≡ [] → IsHeld mem trail group waiting
+pub handed_held : (mem : MemShown) (trail : TrailShown) (group : Option FlightShown) (waiting : List Ticketed) (batches : List Batch)
+    → batches ≡ batches_flying group → batches_flying (without_batches group) ≡ [] → IsHeld mem trail group waiting
     → IsHeld mem (handed (ops_of batches) trail) (without_batches group) waiting
 handed_held mem trail group waiting batches taken none h =
     let bytes = ap (λ (l : List Batch). bytes_needed (ops_of l)) taken in
@@ -77,31 +63,26 @@ handed_held mem trail group waiting batches taken none h =
     let more = bytes_needed-append trail.limbo (ops_of batches) in
     let longer = count_ops-append trail.limbo (ops_of batches) in
     record {
-      placed = h.placed;
+      below = h.below;
       bytes = omega (arith, h.bytes, bytes, no_bytes, more);
       entries = omega (arith, h.entries, ops, no_ops, longer);
     }
 
-pub published_held : (mem behind : MemShown) (trail : Story) (group : Option Group) (waiting : List Ticketed) (sync : Bool) → IsHeld mem trail group waiting
-    → behind.rows ≡ mem.rows ++ batch_rows ((point_of trail).seq + 1) trail.limbo → behind.bytes + bytes_needed trail.limbo ≡ mem.bytes
+pub published_held : (mem behind : MemShown) (trail : TrailShown) (group : Option FlightShown) (waiting : List Ticketed) (sync : Bool) → IsHeld mem trail group waiting
+    → behind.rows ≡ mem.rows ++ batch_rows (seq_in trail + 1) trail.limbo → behind.bytes + bytes_needed trail.limbo ≡ mem.bytes
     → behind.entries + count_ops trail.limbo ≡ mem.entries → IsHeld behind (published sync trail) None waiting
 published_held mem behind trail group waiting sync h rows bytes entries =
-    let all = all_placed mem.rows (point_of trail) trail.limbo h.placed.map h.placed.below in
-    let point = sym (point_published trail sync) in
+    let below = below_batches mem.rows (seq_in trail + 1) trail.limbo h.below in
+    let number : seq_in trail + 1 + count_ops trail.limbo ≡ seq_in (published sync trail) + 1 = omega (arith, count_ops-append trail.log trail.limbo) in
     record {
-      placed = record {
-        map = subst (λ (p : Point). IsMapOf behind.rows p.values) point (subst (λ l. IsMapOf l (fold_batches (point_of trail) trail.limbo).values) (sym rows) all.0);
-        below = subst (λ (p : Point). All (λ (row : Row). row.seq < p.seq + 1) behind.rows) point (subst (All (λ (row : Row). row.seq < (fold_batches (point_of trail) trail.limbo).seq + 1)) (sym rows) all.1);
-      };
+      below = subst (λ n. All (λ (row : Row). row.seq < n) behind.rows) number
+          (subst (All (λ (row : Row). row.seq < seq_in trail + 1 + count_ops trail.limbo)) (sym rows) below);
       bytes = omega (arith, h.bytes, bytes);
       entries = omega (arith, h.entries, entries);
     }
 
-same_placed : (mem behind : MemShown) (point : Point) → behind.rows ≡ mem.rows → IsPlaced mem point → IsPlaced behind point
-same_placed mem behind point rows h = record {
-  map = subst (λ l. IsMapOf l point.values) (sym rows) h.map;
-  below = subst (All (λ (row : Row). row.seq < point.seq + 1)) (sym rows) h.below;
-}
+same_below : (mem behind : MemShown) (seq : ℕ) → behind.rows ≡ mem.rows → All (λ row. row.seq < seq) mem.rows → All (λ row. row.seq < seq) behind.rows
+same_below mem behind seq rows h = subst (All (λ (row : Row). row.seq < seq)) (sym rows) h
 
 joined_bytes : (waiting : List Ticketed) (ticket : ℕ) (batch : Batch)
     → bytes_needed (ops_of (batches_of (waiting ++ ticketed ticket batch ∷ []))) ≡ bytes_needed (ops_of (batches_of waiting)) + bytes_of batch.ops
@@ -127,18 +108,18 @@ pub record HasRoomMore (mem behind : MemShown) (ops : List Op) : Type 0 where
   pub bytes : behind.bytes ≡ mem.bytes + bytes_of ops
   pub entries : behind.entries ≡ mem.entries + length ops
 
-pub reserved_held : (mem behind : MemShown) (trail : Story) (group : Option Group) (waiting : List Ticketed) (ops : List Op) → IsHeld mem trail group waiting → HasRoomMore mem behind ops
+pub reserved_held : (mem behind : MemShown) (trail : TrailShown) (group : Option FlightShown) (waiting : List Ticketed) (ops : List Op) → IsHeld mem trail group waiting → HasRoomMore mem behind ops
     → IsHeld behind trail group waiting
 reserved_held mem behind trail group waiting ops h r = record {
-  placed = same_placed mem behind (point_of trail) r.rows h.placed;
+  below = same_below mem behind (seq_in trail + 1) r.rows h.below;
   bytes = omega (arith, h.bytes, r.bytes);
   entries = omega (arith, h.entries, r.entries);
 }
 
-pub joined_held : (mem behind : MemShown) (trail : Story) (group : Option Group) (waiting : List Ticketed) (ticket : ℕ) (batch : Batch) → IsHeld mem trail group waiting
+pub joined_held : (mem behind : MemShown) (trail : TrailShown) (group : Option FlightShown) (waiting : List Ticketed) (ticket : ℕ) (batch : Batch) → IsHeld mem trail group waiting
     → HasRoomMore mem behind batch.ops → IsHeld behind trail group (waiting ++ ticketed ticket batch ∷ [])
 joined_held mem behind trail group waiting ticket batch h r = record {
-  placed = same_placed mem behind (point_of trail) r.rows h.placed;
+  below = same_below mem behind (seq_in trail + 1) r.rows h.below;
   bytes = omega (arith, h.bytes, r.bytes, joined_bytes waiting ticket batch);
   entries = omega (arith, h.entries, r.entries, joined_ops waiting ticket batch);
 }

@@ -1,11 +1,16 @@
--- How a story goes on of which another is a part.
-use Rattle.std.proofs.Common.{◌≡◌, ℕ, suc, ◌+◌, Bool, true, false, List, [], ◌∷◌, ◌++◌, length, take, drop, refl, sym, ap, ◌∙◌, arith, append_assoc}
+-- How a story goes on that has the batches of a trail behind others.
+use Rattle.std.proofs.Common.{◌≡◌, ℕ, suc, ◌+◌, Bool, true, false, List, [], ◌∷◌, ◌++◌, length, take, drop, refl, sym, ap, ◌∙◌, arith, append_assoc, append-nil}
 use Rattle.std.proofs.lemmas.List.{length-append, take-append-drop}
 use Rattle.keel_base.specs.Points.{Point, after_batch, fold_batches}
 use Rattle.keel_base.specs.declared.op.Batch.{Batch}
 use Rattle.keel_base.specs.declared.op.Op.{Op}
-use Rattle.keel_machine.specs.Admission.{ops_of, count_ops}
-use Rattle.keel_machine.specs.States.{Story, IsPartOf, handed, point_of, published}
+use Rattle.keel_machine.specs.Admission.{ops_of}
+use Rattle.keel_machine.specs.Resuming.{cleared_story}
+use Rattle.keel_machine.specs.States as machine
+use Rattle.keel_machine.specs.States.{Story, point_of}
+use Rattle.keel_resume.specs.Drafts.{count_ops}
+use Rattle.keel_core.specs.Trails.{Continues, TrailShown, cleared, handed, published, seq_in}
+use Rattle.keel_core.proofs.Lists.{count_ops-append}
 
 pub ops_of-append : (front back : List Batch) → ops_of (front ++ back) ≡ ops_of front ++ ops_of back
 ops_of-append [] back = refl
@@ -21,17 +26,22 @@ seq-fold_batches point (ops ∷ batches) =
     let first : count_ops (ops ∷ batches) ≡ length ops + count_ops batches = refl in
     omega (arith, first, seq-fold_batches (after_batch point ops) batches)
 
--- ---- parts
+-- ---- the number of the last op
 
-pub part_self : (story : Story) → IsPartOf story story
-part_self story = record { earlier = []; start_is = refl; log_is = refl; limbo_is = refl; floor_is = omega arith }
+pub last_same : (trail : TrailShown) (story : Story) → Continues trail story → (point_of story).seq ≡ seq_in trail
+last_same trail story h =
+    let split = ap (λ (l : List (List Op)). (fold_batches story.start l).seq) h.log_is ∙ ap (λ (p : Point). p.seq) (fold_batches-append story.start h.earlier trail.log) in
+    let sum = seq-fold_batches (fold_batches story.start h.earlier) trail.log in
+    let start = h.start_is in
+    omega (arith, split, sum, start)
 
-pub part_point : (part story : Story) → IsPartOf part story → point_of part ≡ point_of story
-part_point part story h =
-    ap (λ (p : Point). fold_batches p part.log) h.start_is ∙ sym (fold_batches-append story.start h.earlier part.log) ∙ ap (fold_batches story.start) (sym h.log_is)
+pub seq_published : (trail : TrailShown) (sync : Bool) → seq_in (published sync trail) ≡ seq_in trail + count_ops trail.limbo
+seq_published trail sync = omega (arith, count_ops-append trail.log trail.limbo)
 
-pub part_handed : (part story : Story) (batches : List (List Op)) → IsPartOf part story → IsPartOf (handed batches part) (handed batches story)
-part_handed part story batches h = record {
+-- ---- it goes on
+
+pub handed_on : (trail : TrailShown) (story : Story) (batches : List (List Op)) → Continues trail story → Continues (handed batches trail) (machine.handed batches story)
+handed_on trail story batches h = record {
   earlier = h.earlier;
   start_is = h.start_is;
   log_is = h.log_is;
@@ -39,25 +49,30 @@ part_handed part story batches h = record {
   floor_is = h.floor_is;
 }
 
-log_published : (part story : Story) (h : IsPartOf part story) → story.log ++ story.limbo ≡ h.earlier ++ (part.log ++ part.limbo)
-log_published part story h = (λ i. h.log_is i ++ h.limbo_is i) ∙ append_assoc h.earlier part.log part.limbo
+log_published : (trail : TrailShown) (story : Story) (h : Continues trail story) → story.log ++ story.limbo ≡ h.earlier ++ (trail.log ++ trail.limbo)
+log_published trail story h = (λ i. h.log_is i ++ h.limbo_is i) ∙ append_assoc h.earlier trail.log trail.limbo
 
-floor_published : (sync : Bool) (part story : Story) (h : IsPartOf part story) → (published sync story).floor ≡ length h.earlier + (published sync part).floor
-floor_published false part story h = h.floor_is
-floor_published true part story h = ap length (log_published part story h) ∙ length-append h.earlier (part.log ++ part.limbo)
+floor_published : (sync : Bool) (trail : TrailShown) (story : Story) (h : Continues trail story) → (machine.published sync story).floor ≡ length h.earlier + (published sync trail).floor
+floor_published false trail story h = h.floor_is
+floor_published true trail story h = ap length (log_published trail story h) ∙ length-append h.earlier (trail.log ++ trail.limbo)
 
-pub part_published : (part story : Story) (sync : Bool) → IsPartOf part story → IsPartOf (published sync part) (published sync story)
-part_published part story sync h = record {
+pub published_on : (trail : TrailShown) (story : Story) (sync : Bool) → Continues trail story → Continues (published sync trail) (machine.published sync story)
+published_on trail story sync h = record {
   earlier = h.earlier;
   start_is = h.start_is;
-  log_is = log_published part story h;
+  log_is = log_published trail story h;
   limbo_is = refl;
-  floor_is = floor_published sync part story h;
+  floor_is = floor_published sync trail story h;
 }
 
--- the map and the sequence behind the batches that are published
-pub point_published : (story : Story) (sync : Bool) → point_of (published sync story) ≡ fold_batches (point_of story) story.limbo
-point_published story sync = fold_batches-append story.start story.log story.limbo
+pub cleared_on : (trail : TrailShown) (story : Story) → Continues trail story → Continues (cleared trail) (cleared_story story)
+cleared_on trail story h = record {
+  earlier = h.earlier;
+  start_is = h.start_is;
+  log_is = h.log_is;
+  limbo_is = refl;
+  floor_is = ap length h.log_is ∙ length-append h.earlier trail.log;
+}
 
 -- ---- a trail's own batches
 

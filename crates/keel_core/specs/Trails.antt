@@ -1,21 +1,20 @@
 -- What a trail shows: the story since the opening.
-use Rattle.std.specs.Prelude.{◌≡◌, List, [], take, drop, vec_len}
-use Rattle.keel_base.specs.Points.{Point, origin, fold_batches}
+use Rattle.std.specs.Prelude.{◌≡◌, ℕ, ◌+◌, Bool, List, [], ◌++◌, length, take, drop, vec_len, if◌then◌else◌}
+use Rattle.keel_base.specs.Points.{fold_batches}
 use Rattle.keel_base.specs.declared.op.Batch.{Batch}
-use Rattle.keel_batch.specs.declared.batch.Numbered.{Numbered}
-use Rattle.keel_reading.specs.Logs as reading
-use Rattle.keel_reading.specs.Replays.{all_numbered}
+use Rattle.keel_base.specs.declared.op.Op.{Op}
 use Rattle.keel_machine.specs.Admission.{ops_of}
-use Rattle.keel_machine.specs.States.{Story, new_story}
+use Rattle.keel_machine.specs.States.{Story}
+use Rattle.keel_resume.specs.Drafts.{count_ops}
 use Rattle.keel_core.specs.declared.trail.Trail.{Trail}
 
--- the point that batches which were read lead to
-abbrev pub point_read : List Numbered → Point
-point_read batches = fold_batches origin (reading.ops_of (all_numbered batches))
-
--- the batches that the opening read, those that were published since, and those that were handed to the log and aren't
-abbrev pub read_in : Trail → List Numbered
-read_in t = t.read
+-- the number of the last op at the opening, the batches that were published since, those that were handed to a log and
+-- aren't, and how many of the published ones must not be lost
+pub record TrailShown : Type 0 where
+  pub start : ℕ
+  pub log : List (List Op)
+  pub limbo : List (List Op)
+  pub floor : ℕ
 
 abbrev pub log_in : Trail → List Batch
 log_in t = take t.published t.batches.items
@@ -23,12 +22,46 @@ log_in t = take t.published t.batches.items
 abbrev pub limbo_in : Trail → List Batch
 limbo_in t = drop t.published t.batches.items
 
--- the story that begins with what the opening read
-abbrev pub shown : Trail → Story
-shown t = record { start = point_read (read_in t); log = ops_of (log_in t); limbo = ops_of (limbo_in t); floor = t.floor }
+abbrev pub shown : Trail → TrailShown
+shown t = record { start = t.start; log = ops_of (log_in t); limbo = ops_of (limbo_in t); floor = t.floor }
 
--- nothing was handed to a log behind what was read
-pub record IsEmptyTrail (read : List Numbered) (t : Trail) : Type 0 where
-  pub shows : shown t ≡ new_story (point_read read)
+-- the number of the last published op
+abbrev pub seq_in : TrailShown → ℕ
+seq_in trail = trail.start + count_ops trail.log
+
+-- no batch yet
+abbrev pub new_trail : ℕ → TrailShown
+new_trail start = record { start = start; log = []; limbo = []; floor = 0 }
+
+pub record IsEmptyTrail (start : ℕ) (t : Trail) : Type 0 where
+  pub shows : shown t ≡ new_trail start
   pub no_limbo : limbo_in t ≡ []
   pub none : vec_len t.batches ≡ 0
+
+-- ---- how it goes on
+
+-- batches were handed to a log
+abbrev pub handed : List (List Op) → TrailShown → TrailShown
+handed batches trail = record trail { limbo = trail.limbo ++ batches }
+
+-- what is in limbo is published; behind a sync none of it must be lost
+abbrev pub published : Bool → TrailShown → TrailShown
+published sync trail = record trail {
+  log = trail.log ++ trail.limbo;
+  limbo = [];
+  floor = if sync then length (trail.log ++ trail.limbo) else trail.floor;
+}
+
+-- none of the published ones must be lost any more
+abbrev pub cleared : TrailShown → TrailShown
+cleared trail = record trail { limbo = []; floor = length trail.log }
+
+-- ---- stories
+
+-- The story has the batches of the trail behind others, which lead to the number at the opening.
+pub record Continues (trail : TrailShown) (story : Story) : Type 0 where
+  pub earlier : List (List Op)
+  pub start_is : (fold_batches story.start earlier).seq ≡ trail.start
+  pub log_is : story.log ≡ earlier ++ trail.log
+  pub limbo_is : story.limbo ≡ trail.limbo
+  pub floor_is : story.floor ≡ length earlier + trail.floor

@@ -1,30 +1,73 @@
 -- What a core shows, and the states of the machine that it stands for.
-use Rattle.std.specs.Prelude.{◌≡◌, ◌≢◌, ℕ, ◌+◌, ◌*◌, ◌<◌, ◌^◌, not, Bool, true, false, List, [], length, Option, None, Some, is_some, option_map, option_to_list}
-use Rattle.keel_base.specs.Points.{Point}
+use Rattle.std.specs.Prelude.{◌≡◌, ◌≢◌, ℕ, ◌+◌, ◌*◌, ◌<◌, ◌^◌, ◌==◌, ◌&&◌, nat_le, Bool, true, false, List, [], ◌∷◌, length, Option, None, Some, is_some, IsSome, option_map, option_to_list}
+use Rattle.keel_base.specs.declared.limits.TheConstants.{LAST_NUMBER}
+use Rattle.keel_base.specs.declared.failure.Counter.TheVariants.{FileNumber, JobNumber}
 use Rattle.keel_base.specs.declared.failure.Fault.{Fault}
 use Rattle.keel_base.specs.declared.failure.Failure.{Failure}
+use Rattle.keel_base.specs.declared.op.Op.{Op}
+use Rattle.keel_base.specs.declared.options.Options.{Options}
+use Rattle.keel_base.specs.declared.row.Row.{Row}
+use Rattle.keel_directory.specs.TableFiles.{TableFile}
 use Rattle.keel_disk.specs.Seen.{Seen}
 use Rattle.keel_group.specs.Queue.{Ticketed}
 use Rattle.keel_machine.specs.declared.answers.Outcome.{Outcome}
 use Rattle.keel_machine.specs.declared.steps.WriteStep.{WriteStep}
 use Rattle.keel_machine.specs.declared.steps.WriteStep.TheVariants as step
-use Rattle.keel_machine.specs.States.{State, Story, Footing, Unknown, Leaving, Nothing, Open, Group, IsPartOf, left_of, point_of}
+use Rattle.keel_levels.specs.declared.live.LiveTable.{LiveTable}
+use Rattle.keel_levels.specs.Live.{AreOpened, tables_of}
+use Rattle.keel_machine.specs.Reads.{IsBorne, WhereKnown}
+use Rattle.keel_machine.specs.States as machine
+use Rattle.keel_machine.specs.States.{State, Story, Footing, Unknown, Leaving, Phase, SegmentLog, Segment, Resumption, entries_in, left_of}
+use Rattle.keel_machine.specs.Tests.{first_some, when, differing}
 use Rattle.keel_machine.specs.Turns.{Event, Answers, after}
 use Rattle.keel_machine.specs.Turns as turns
 use Rattle.keel_machine.specs.Writing.{draws, write_rest}
 use Rattle.keel_machine.specs.WritingAfter.{failure_of}
-use Rattle.keel_core.specs.declared.log.OwnLog.{OwnLog}
-use Rattle.keel_core.specs.Flights.{logs_of}
+use Rattle.keel_mem.specs.Totals.{weight_of}
+use Rattle.keel_resume.specs.Drafts.{batch_rows, count_ops}
+use Rattle.keel_core.specs.Flights.{FlightShown, IsPlanned, group_of, running_of}
+use Rattle.keel_core.specs.Trails.{TrailShown, Continues, seq_in}
 
 -- ---- what a core shows
 
+-- how far the boot of a store has come: it hasn't begun, it runs, a call of it failed, or writes are taken
+pub data BootShown : Type 0 where
+  ToStart : BootShown
+  Running : Resumption → BootShown
+  Over : Failure → BootShown
+  Cleared : BootShown
+
+abbrev pub takes_writes : BootShown → Bool
+takes_writes Cleared = true
+takes_writes _ = false
+
+-- before that no batch was taken in
+abbrev pub IsStill : BootShown → List Ticketed → Option FlightShown → Type 0
+IsStill Cleared waiting group = Unit {0}
+IsStill _ waiting group = (waiting ≡ []) × (group ≡ None)
+
+-- the rows of a full segment, and the numbers of the logs that have them
+pub record FullSegment : Type 0 where
+  pub rows : List Row
+  pub logs : List ℕ
+
 pub record CoreView : Type 0 where
   pub device : Seen
+  pub options : Options
+  pub boot : BootShown
+  -- the number of the boot that runs or ran last
+  pub boot_job : ℕ
   -- the story since the opening
-  pub trail : Story
-  pub log : Option OwnLog
+  pub trail : TrailShown
+  -- the full segments, oldest first
+  pub immutable : List FullSegment
+  -- the rows of the active segment
+  pub rows : List Row
+  pub log : Option SegmentLog
+  -- the tables, by level, then by number, with what is open of them
+  pub levels : List LiveTable
   pub waiting : List Ticketed
-  pub group : Option Group
+  pub group : Option FlightShown
   -- those that weren't taken
   pub outcomes : List (ℕ × Outcome)
   pub last_ticket : ℕ
@@ -32,14 +75,24 @@ pub record CoreView : Type 0 where
   -- how a call of a group failed, from when on nothing is written
   pub failed : Option Fault
   pub next_file : ℕ
+  -- the manifest in use
+  pub manifest : Option ℕ
 
 -- the core over a device that shows this
 abbrev pub with_device : Seen → CoreView → CoreView
 with_device device view = record view { device = device }
 
--- the map and the sequence behind the published batches
-abbrev pub point_in : CoreView → Point
-point_in view = point_of view.trail
+-- the number of the last published op
+abbrev pub last_in : CoreView → ℕ
+last_in view = seq_in view.trail
+
+-- the active segment takes no further group
+abbrev pub is_full : CoreView → Bool
+is_full view = nat_le view.options.write_buffer (weight_of view.rows)
+
+-- and no other may follow it
+abbrev pub is_store_full : CoreView → Bool
+is_store_full view = is_full view && nat_le view.options.max_immutables (length view.immutable)
 
 -- ---- the states that it stands for
 
@@ -48,42 +101,68 @@ pub record Beyond : Type 0 where
   pub footing : Footing
   pub left : Leaving
   pub story : Story
-  pub paranoid : Bool
-  pub running : Option Group
+  pub immutable : List Segment
+  -- the batches of the active segment
+  pub active : List (List Op)
+  pub levels : List TableFile
+  pub in_tables : ℕ
 
--- it has the same calls before it
-pub record IsAlike (group running : Group) : Type 0 where
-  pub tickets : running.tickets ≡ group.tickets
-  pub batches : running.batches ≡ group.batches
-  pub log : running.progress.log ≡ group.progress.log
-  pub left : left_of running ≡ left_of group
+-- The rows of the segments are those of their batches, which are numbered on behind that number up to the last one.
+abbrev pub AreSegments : ℕ → List FullSegment → List Segment → List Row → List (List Op) → ℕ → Type 0
+AreSegments seq [] [] rows active last = (rows ≡ batch_rows (seq + 1) active) × (seq + count_ops active ≡ last)
+AreSegments seq (full ∷ fulls) (segment ∷ segments) rows active last =
+    (full.logs ≡ segment.logs) × (full.rows ≡ batch_rows (seq + 1) segment.batches)
+    × AreSegments (seq + count_ops segment.batches) fulls segments rows active last
+AreSegments seq _ _ rows active last = ⊥
 
-abbrev pub AreAlike : Option Group → Option Group → Type 0
-AreAlike None None = Unit {0}
-AreAlike (Some group) (Some running) = IsAlike group running
-AreAlike _ _ = ⊥
+-- a boot that runs has these tables before it
+abbrev pub IsLeading : BootShown → List LiveTable → Type 0
+IsLeading (Running resumption) levels = resumption.job.live ≡ tables_of levels
+IsLeading _ levels = Unit {0}
 
--- the story goes on as the core's trail does, and the group has the calls before it that the core's has
+-- what is beyond the core goes with what it shows
 pub record Fits (view : CoreView) (beyond : Beyond) : Type 0 where
-  pub story : IsPartOf view.trail beyond.story
-  pub group : AreAlike view.group beyond.running
+  pub story : Continues view.trail beyond.story
+  pub segments : AreSegments beyond.in_tables view.immutable beyond.immutable view.rows beyond.active (last_in view)
+  pub tables : tables_of view.levels ≡ entries_in beyond.levels
+  -- of a known device what is open is what its files have
+  pub opened : WhereKnown beyond.footing (AreOpened view.levels beyond.levels)
+  pub leads : IsLeading view.boot view.levels
+
+abbrev pub phase_of : BootShown → Phase
+phase_of Cleared = machine.Open
+phase_of _ = machine.Booting
 
 -- the failure that stands, where a call failed
 abbrev pub failures_of : Option Fault → List Failure
 failures_of failed = option_to_list (option_map failure_of failed)
+
+abbrev pub failures_in : BootShown → Option Fault → List Failure
+failures_in (Over failure) failed = failure ∷ []
+failures_in Cleared failed = failures_of failed
+failures_in _ failed = []
+
+abbrev pub resumption_of : BootShown → Option Resumption
+resumption_of (Running resumption) = Some resumption
+resumption_of _ = None
 
 -- the state whose other parts are what the core shows
 abbrev pub state_of : CoreView → Beyond → State
 state_of view beyond = record {
   device = view.device;
   footing = beyond.footing;
-  mode = record { phase = Open; left = beyond.left };
+  options = view.options;
+  mode = record { phase = phase_of view.boot; left = beyond.left };
   story = beyond.story;
-  segments = record { immutable = []; active = record { batches = view.trail.log; logs = logs_of view.log (is_some view.failed) } };
+  segments = record { immutable = beyond.immutable; active = record { batches = beyond.active; log = view.log } };
+  levels = beyond.levels;
   writing = record { waiting = view.waiting; outcomes = view.outcomes; last_ticket = view.last_ticket };
-  failing = record { failures = failures_of view.failed; paranoid = beyond.paranoid };
-  jobs = record { write = record { number = view.job; running = beyond.running } };
-  numbers = record { next_file = view.next_file };
+  failing = record { failures = failures_in view.boot view.failed };
+  jobs = record {
+    write = record { number = view.job; running = running_of view.group };
+    resume = record { number = view.boot_job; running = resumption_of view.boot };
+  };
+  numbers = record { next_file = view.next_file; manifest = view.manifest; in_tables = beyond.in_tables };
 }
 
 pub record StandsFor (view : CoreView) (s : State) : Type 0 where
@@ -91,42 +170,66 @@ pub record StandsFor (view : CoreView) (s : State) : Type 0 where
   pub state_is : s ≡ state_of view beyond
   pub fits : Fits view beyond
 
--- one of them: nothing is known but what the core shows
-abbrev pub nothing_beyond : CoreView → Beyond
-nothing_beyond view = record { footing = Unknown; left = Nothing; story = view.trail; paranoid = false; running = view.group }
-
-abbrev pub own_state : CoreView → State
-own_state view = state_of view (nothing_beyond view)
-
 -- ---- clauses of the calls
 
 -- For each state that the core stands for, the answer has its cause, and the core then stands for the state behind the call.
 pub record TakesTurn (old : CoreView) (event : Event) (new : CoreView) : Type 0 where
   pub goes : (s : State) → StandsFor old s → Answers s event new.device × StandsFor new (after s event new.device)
 
+-- The same for each state whose device bears it out.
+pub record TakesRead (old : CoreView) (event : Event) (new : CoreView) : Type 0 where
+  pub goes : (s : State) → StandsFor old s → IsBorne s → Answers s event new.device × StandsFor new (after s event new.device)
+
+-- ---- the write step
+
+-- whether the next call draws a file's number
+abbrev pub draws_next : Option FlightShown → Bool
+draws_next None = false
+draws_next (Some flight) = draws (left_of (group_of flight))
+
+abbrev pub is_file_spent : CoreView → Bool
+is_file_spent view = nat_le LAST_NUMBER view.next_file
+
+abbrev pub rests_of : CoreView → Option FlightShown → List (Option WriteStep)
+rests_of view None =
+    when (length view.waiting == 0) step.Idle
+    ∷ option_map (λ failure. step.Turned (length view.waiting) failure) (option_map failure_of view.failed)
+    ∷ when (is_store_full view) (step.Full (weight_of view.rows) (length view.immutable))
+    ∷ when (nat_le LAST_NUMBER view.job) (step.Spent JobNumber)
+    ∷ when (is_full view && is_file_spent view) (step.Spent FileNumber)
+    ∷ []
+rests_of view (Some flight) = when (draws_next (Some flight) && is_file_spent view) (step.Spent FileNumber) ∷ []
+
 -- What a write step answers where it makes no call. It depends on what the core shows alone.
 abbrev pub rest_of : CoreView → Option ℕ → Option WriteStep
-rest_of view held = write_rest (own_state view) held
+rest_of view held = first_some (
+    option_map (λ job. step.Cancelled job view.job) (differing held view.job)
+    ∷ first_some (rests_of view view.group)
+    ∷ [])
 
 -- the answers of a step that makes no call
 abbrev pub IsRest : WriteStep → Type 0
 IsRest step.Idle = Unit {0}
 IsRest (step.Turned batches failure) = Unit {0}
+IsRest (step.Full active immutables) = Unit {0}
 IsRest (step.Spent counter) = Unit {0}
 IsRest (step.Cancelled job current) = Unit {0}
 IsRest _ = ⊥
 
--- whether the next call draws a file's number
-abbrev pub draws_next : Option OwnLog → Option Group → Bool
-draws_next log None = not (is_some log)
-draws_next log (Some group) = draws (left_of group)
+abbrev pub IsOnPlan : Option FlightShown → Type 0
+IsOnPlan None = Unit {0}
+IsOnPlan (Some flight) = IsPlanned flight.next flight.switches flight.sync
 
--- A group is in flight or can be formed, no call failed, and the numbers that its next call draws are below their ends.
+-- A group is in flight or can be formed, no call failed, there is a log, and the numbers that its calls draw are below
+-- their ends.
 pub record CanGoOn (view : CoreView) : Type 0 where
+  pub cleared : view.boot ≡ Cleared
+  pub log : IsSome view.log
+  pub on_plan : IsOnPlan view.group
   pub some : view.group ≡ None → view.waiting ≢ []
   pub calm : view.failed ≡ None
   pub job : view.group ≡ None → view.job < 2 ^ 56
-  pub file : draws_next view.log view.group ≡ true → view.next_file < 2 ^ 56
+  pub file : draws_next view.group ≡ true → view.next_file < 2 ^ 56
 
 -- The clause of a write step that makes its call: for each state in which it doesn't rest.
 pub record MakesCall (old : CoreView) (made : WriteStep) (new : CoreView) : Type 0 where
@@ -135,12 +238,12 @@ pub record MakesCall (old : CoreView) (made : WriteStep) (new : CoreView) : Type
       → Answers s (turns.Writing held made) new.device × StandsFor new (after s (turns.Writing held made) new.device)
 
 -- how many calls those in the queue and in flight still have before them, at most
-abbrev pub calls_in : Option Group → ℕ
+abbrev pub calls_in : Option FlightShown → ℕ
 calls_in None = 0
-calls_in (Some group) = length (left_of group)
+calls_in (Some flight) = length (left_of (group_of flight))
 
 abbrev pub calls_left : CoreView → ℕ
-calls_left view = calls_in view.group + 5 * length view.waiting
+calls_left view = calls_in view.group + 6 * length view.waiting
 
 -- a step that did something brings what waits nearer, and one finds nothing to do only where nothing waits
 abbrev pub ComesNearer : CoreView → WriteStep → CoreView → Type 0

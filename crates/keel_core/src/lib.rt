@@ -1,26 +1,30 @@
-//! The store as one state, whose calls are the turns of the machine.
+//! The store that boots from a manifest, as one state whose calls are the turns of the machine.
 //!
-//! `open` reads the logs of the directory (`keel_reading`) and changes nothing there. The store goes on behind their
-//! batches, and never writes to these logs again.
+//! `Core::open` reads the directory, and changes nothing there. The store then boots: each `resume_step` makes one call, of
+//! tables for what was replayed, of a new log, or of the roll to a manifest that names them. Behind the last one it takes
+//! writes: `admit` queues a batch, each `write_step` makes one call of the group in flight, or of the switch to a new log
+//! where the active segment is full, and `take_outcome` says what became of a ticket. `get` and `scan` read the segments in
+//! memory, and then tables.
 //!
-//! A put goes through three calls: `admit` queues its batch under a ticket, or says which size is outside its
-//! limits; `write_step` makes the next call of the device for the group in flight, and `take_outcome` hands out
-//! what became of the ticket. The first group makes a log of the store's own; each group appends its records there
-//! and syncs them where a batch wants it, and only then publishes its batches. Behind a failing call nothing is
-//! written any more.
-//!
-//! Each call's contract is: for each state of the machine (`keel_machine`) that the core stands for, the
-//! answer has its cause there, and the core then stands for the state that the machine goes on to.
+//! Each call promises a turn of `keel_machine` (`TakesTurn`, `TakesRead`, `ResumesTurn` in `specs`): for every state
+//! that the core stands for, the answer has its cause there, and the core stands for the state behind. `keel_recovery`
+//! says what a crash leaves of such turns. It is the store that the program runs.
 #![tactic(auto)]
 
+mod boot;
+mod booting;
 mod flight;
 mod log;
 mod opening;
 mod placing;
 mod queue;
+mod reading;
 mod scanning;
+mod segments;
 mod sizes;
 mod store;
+mod switching;
+mod tables;
 mod trail;
 mod writing;
 

@@ -3,11 +3,13 @@ ghost use Rattle.std.specs.Prelude.{◌≡◌, ◌+◌, ◌<◌, ◌≤◌, ◌^
 ghost use Rattle.std.specs.List.{list_any};
 ghost use Rattle.keel_group.specs.Forming.{EachIsAdmissible, HasRoomFor, next_batches, next_size};
 ghost use Rattle.keel_group.specs.Queue.{batches_of, tickets_of};
-ghost use Rattle.keel_machine.specs.Admission.{batches_of_group, count_ops, ops_of, outcome_kept, tickets_of_group};
+ghost use Rattle.keel_machine.specs.Admission.{ops_of, outcome_kept};
+ghost use Rattle.keel_resume.specs.Drafts.{count_ops};
+ghost use Rattle.keel_core.specs.Flights.{batches_flying, tickets_flying};
 ghost use Rattle.keel_machine.specs.WritingAfter.{done_each, seq_behind};
 ghost use Rattle.keel_core.specs.Queues.{given};
 
-use crate::flight::{Act, Flight};
+use crate::flight::{Act, Flight, first_act};
 use keel_base::{Batch, Call, Failure, OutOfMemory};
 use keel_group::{Formed, MAX_WAITING, WaitQueue};
 use keel_machine::{Outcome, WriteStep};
@@ -24,8 +26,8 @@ pub(crate) struct Queue {
 }
 
 impl Queue {
-    ghost use Rattle.keel_core.specs.Flights.{flying, next_in, with_next, is_synced};
-    ghost use Rattle.keel_core.specs.Queues.{IsNewQueue, batches_next, next_group, without_batches, outcome_told, on_its_way};
+    ghost use Rattle.keel_core.specs.Flights.{flying, gone_to, is_synced, without_batches};
+    ghost use Rattle.keel_core.specs.Queues.{IsNewQueue, batches_next, next_flight, outcome_told, on_its_way};
 
     pub(crate) fn new(alloc: Global) -> Queue
         ensures { IsNewQueue result }
@@ -41,7 +43,7 @@ impl Queue {
 
     /// How many batches the group in flight has tickets for.
     pub(crate) fn in_flight(&self) -> usize
-        ensures { result ≡ length (tickets_of_group (flying self.now.group)) }
+        ensures { result ≡ length (tickets_flying (flying self.now.group)) }
     {
         match &self.group {
             Some(group) => group.tickets.len(),
@@ -51,7 +53,7 @@ impl Queue {
 
     /// How many batches the group in flight has still to hand over.
     pub(crate) fn held(&self) -> usize
-        ensures { result ≡ length (batches_of_group (flying self.now.group)) }
+        ensures { result ≡ length (batches_flying (flying self.now.group)) }
     {
         match &self.group {
             Some(group) => group.batches.len(),
@@ -61,7 +63,7 @@ impl Queue {
 
     /// Takes the memory of one batch more, and of the outcomes of all that wait, of this one, and of the group in flight.
     pub(crate) fn reserve(&mut self) -> Result<(), OutOfMemory>
-        requires { length (tickets_of_group (flying self.old.group)) ≤ 64 }
+        requires { length (tickets_flying (flying self.old.group)) ≤ 64 }
         ensures waiting { self.new.waiting.items ≡ self.old.waiting.items }
         ensures spare { OnOk result (0 < self.new.waiting.spare) }
         ensures group { self.new.group ≡ self.old.group }
@@ -70,7 +72,7 @@ impl Queue {
         ensures job { self.new.job ≡ self.old.job }
         ensures len { vec_len self.new.outcomes ≡ vec_len self.old.outcomes }
         ensures room { vec_capacity self.old.outcomes ≤ vec_capacity self.new.outcomes }
-        ensures ok { OnOk result (vec_len self.new.outcomes + (length (tickets_of_group (flying self.old.group)) + length self.old.waiting.items + 1) ≤ vec_capacity self.new.outcomes) }
+        ensures ok { OnOk result (vec_len self.new.outcomes + (length (tickets_flying (flying self.old.group)) + length self.old.waiting.items + 1) ≤ vec_capacity self.new.outcomes) }
     {
         self.waiting.reserve()?;
         let count = self.in_flight() + self.waiting.waiting() as usize + 1;
@@ -81,16 +83,16 @@ impl Queue {
     /// How many ops wait or are in flight and aren't handed to the log.
     #[tactic(auto, using(crate::proofs::Lists::ops_counted))]
     pub(crate) fn ops_before(&self) -> u64
-        requires { count_ops (ops_of (batches_of_group (flying self.now.group))) + count_ops (ops_of (batches_of self.now.waiting.items)) < 2 ^ 64 }
-        ensures { result ≡ count_ops (ops_of (batches_of_group (flying self.now.group))) + count_ops (ops_of (batches_of self.now.waiting.items)) }
+        requires { count_ops (ops_of (batches_flying (flying self.now.group))) + count_ops (ops_of (batches_of self.now.waiting.items)) < 2 ^ 64 }
+        ensures { result ≡ count_ops (ops_of (batches_flying (flying self.now.group))) + count_ops (ops_of (batches_of self.now.waiting.items)) }
     {
         self.ops_held() + self.waiting.waiting_ops()
     }
 
     // How many ops of the group in flight aren't handed to the log.
     fn ops_held(&self) -> u64
-        requires { count_ops (ops_of (batches_of_group (flying self.now.group))) < 2 ^ 64 }
-        ensures { result ≡ count_ops (ops_of (batches_of_group (flying self.now.group))) }
+        requires { count_ops (ops_of (batches_flying (flying self.now.group))) < 2 ^ 64 }
+        ensures { result ≡ count_ops (ops_of (batches_flying (flying self.now.group))) }
     {
         match &self.group {
             Some(group) => count_ops(&group.batches),
@@ -101,7 +103,7 @@ impl Queue {
     /// The batches that the next append hands to the log.
     pub(crate) fn next_batches(&self) -> &[Batch]
         ensures batches { result.now ≡ batches_next self.now.waiting.items (flying self.now.group) }
-        ensures each { EachIsAdmissible (batches_of_group (flying self.now.group)) → EachIsAdmissible result.now }
+        ensures each { EachIsAdmissible (batches_flying (flying self.now.group)) → EachIsAdmissible result.now }
     {
         match &self.group {
             Some(group) => group.batches.as_slice(),
@@ -111,7 +113,7 @@ impl Queue {
 
     /// Whether the group in flight is to be synced.
     pub(crate) fn is_synced(&self) -> bool
-        ensures { result ≡ is_synced self.now.group }
+        ensures { result ≡ is_synced (flying self.now.group) }
     {
         match &self.group {
             Some(group) => group.sync,
@@ -120,12 +122,11 @@ impl Queue {
     }
 
     /// The batches that wait form the next group, in what was prepared for it.
-    pub(crate) fn form(&mut self, prepared: Formed, first: Act)
+    pub(crate) fn form(&mut self, prepared: Formed, switches: bool)
         requires room { HasRoomFor (next_size self.old.waiting.items) prepared }
         requires job { self.old.job < 2 ^ 56 }
         ensures waiting { self.new.waiting.items ≡ drop (next_size self.old.waiting.items) self.old.waiting.items }
-        ensures group { flying self.new.group ≡ Some (next_group self.old.waiting.items first) }
-        ensures next { next_in self.new.group ≡ Some first }
+        ensures group { flying self.new.group ≡ Some (next_flight self.old.waiting.items switches) }
         ensures job { self.new.job ≡ self.old.job + 1 }
         ensures outcomes { self.new.outcomes ≡ self.old.outcomes }
         ensures last_ticket { self.new.last_ticket ≡ self.old.last_ticket }
@@ -143,15 +144,16 @@ impl Queue {
         self.group = Some(Flight {
             tickets,
             batches,
+            switches,
             sync,
-            next: first,
+            next: first_act(switches),
         });
     }
 
     /// The group in flight made this call, and goes on with this act.
     pub(crate) fn move_on(&mut self, next: Act, call: Call) -> WriteStep
         ensures step { result ≡ WriteStep.Moved self.old.job call }
-        ensures group { self.new.group ≡ with_next next self.old.group }
+        ensures group { flying self.new.group ≡ gone_to next (flying self.old.group) }
         ensures waiting { self.new.waiting ≡ self.old.waiting }
         ensures outcomes { self.new.outcomes ≡ self.old.outcomes }
         ensures last_ticket { self.new.last_ticket ≡ self.old.last_ticket }
@@ -168,9 +170,8 @@ impl Queue {
 
     /// The batches of the group in flight are handed out.
     pub(crate) fn take_batches(&mut self) -> Vec<Batch>
-        ensures batches { result.items ≡ batches_of_group (flying self.old.group) }
+        ensures batches { result.items ≡ batches_flying (flying self.old.group) }
         ensures group { flying self.new.group ≡ without_batches (flying self.old.group) }
-        ensures next { next_in self.new.group ≡ next_in self.old.group }
         ensures waiting { self.new.waiting ≡ self.old.waiting }
         ensures outcomes { self.new.outcomes ≡ self.old.outcomes }
         ensures last_ticket { self.new.last_ticket ≡ self.old.last_ticket }
@@ -185,11 +186,11 @@ impl Queue {
 
     /// The group in flight is over: a call failed, and each of its batches has that outcome.
     pub(crate) fn settle(&mut self, outcome: Outcome)
-        requires { vec_len self.old.outcomes + length (tickets_of_group (flying self.old.group)) ≤ vec_capacity self.old.outcomes }
+        requires { vec_len self.old.outcomes + length (tickets_flying (flying self.old.group)) ≤ vec_capacity self.old.outcomes }
         ensures waiting { self.new.waiting ≡ self.old.waiting }
         ensures group { self.new.group ≡ None }
-        ensures outcomes { self.new.outcomes.items ≡ self.old.outcomes.items ++ given outcome (tickets_of_group (flying self.old.group)) }
-        ensures len { vec_len self.new.outcomes ≡ vec_len self.old.outcomes + length (tickets_of_group (flying self.old.group)) }
+        ensures outcomes { self.new.outcomes.items ≡ self.old.outcomes.items ++ given outcome (tickets_flying (flying self.old.group)) }
+        ensures len { vec_len self.new.outcomes ≡ vec_len self.old.outcomes + length (tickets_flying (flying self.old.group)) }
         ensures last_ticket { self.new.last_ticket ≡ self.old.last_ticket }
         ensures job { self.new.job ≡ self.old.job }
         ensures room { vec_capacity self.new.outcomes ≡ vec_capacity self.old.outcomes }
@@ -201,12 +202,12 @@ impl Queue {
 
     /// The group in flight is over: its batches are published, numbered on behind a sequence.
     pub(crate) fn settle_done(&mut self, seq: u64, batches: &[Batch])
-        requires room { vec_len self.old.outcomes + length (tickets_of_group (flying self.old.group)) ≤ vec_capacity self.old.outcomes }
+        requires room { vec_len self.old.outcomes + length (tickets_flying (flying self.old.group)) ≤ vec_capacity self.old.outcomes }
         requires numbers { seq + count_ops (ops_of batches.now) < 2 ^ 64 }
         ensures waiting { self.new.waiting ≡ self.old.waiting }
         ensures group { self.new.group ≡ None }
-        ensures outcomes { self.new.outcomes.items ≡ self.old.outcomes.items ++ done_each seq (tickets_of_group (flying self.old.group)) (ops_of batches.now) }
-        ensures len { vec_len self.new.outcomes ≡ vec_len self.old.outcomes + length (tickets_of_group (flying self.old.group)) }
+        ensures outcomes { self.new.outcomes.items ≡ self.old.outcomes.items ++ done_each seq (tickets_flying (flying self.old.group)) (ops_of batches.now) }
+        ensures len { vec_len self.new.outcomes ≡ vec_len self.old.outcomes + length (tickets_flying (flying self.old.group)) }
         ensures last_ticket { self.new.last_ticket ≡ self.old.last_ticket }
         ensures job { self.new.job ≡ self.old.job }
         ensures room { vec_capacity self.new.outcomes ≡ vec_capacity self.old.outcomes }

@@ -1,86 +1,88 @@
-// The puts that count of the keys in a range.
-ghost use Rattle.std.specs.Prelude.{◌≡◌, ◌++◌, option_map, IfOk, OnOk};
-ghost use Rattle.keel_base.specs.Points.{Values};
-ghost use Rattle.keel_base.specs.Rows.{IsMapOf};
-ghost use Rattle.keel_machine.specs.Reads.{in_range, AreRowsOf};
+// What the keys of a range have.
+ghost use Rattle.std.specs.Prelude.{◌≡◌, ◌∷◌, [], ◌++◌, IfOk, OnOk};
+ghost use Rattle.keel_levels.specs.Ranges.{between, in_range};
+ghost use Rattle.keel_machine.specs.Turns.{Scanning};
 ghost use Rattle.keel_mem.specs.RowShown.{row_shown};
-ghost use Rattle.keel_core.specs.Scans.{is_new, is_put, counts, counted};
+ghost use Rattle.keel_core.specs.Scans.{AreRanges, IsRange, IsScannedOf, fault_scanned, rows_held, table_scanned};
+ghost use Rattle.keel_core.specs.Views.{TakesRead};
 
-use keel_base::{Bytes, Kind, OutOfMemory, Row, Rows};
+use crate::store::Core;
+use keel_base::{Bytes, OutOfMemory, Row, RowLists, Rows};
+use keel_disk::Disk;
+use keel_levels::ScanFault;
+use keel_machine::Scanned;
 use keel_mem::{Mem, MemRow};
+use keel_table::TableFault;
 use std::alloc::Global;
 
-/// The puts that count of the keys in a range, by key: from one key on and below another, an empty one being no bound.
-/// Want of memory gives none of them.
-pub(crate) fn rows_between(
-    alloc: Global,
-    mem: &Mem,
-    from: &[u8],
-    to: &[u8],
-) -> Result<Rows, OutOfMemory>
-    ensures { (values : Values) → IsMapOf mem.now.rows values → IfOk result (AreRowsOf values from.now to.now) }
+impl<D: Disk> Core<D> {
+    /// The puts that count of the keys in a range, by key: from one key on and below another, an empty one being no
+    /// bound. It takes memory for the rows of the range.
+    pub fn scan(&mut self, alloc: Global, from: &[u8], to: &[u8]) -> Scanned
+        ensures turn { TakesRead self.old (Scanning from.now to.now result) self.new }
+    {
+        let Ok(front) = self.held_between(alloc, from, to) else {
+            return Scanned::OutOfMemory;
+        };
+        let Ok(mut levels) = self.tables.take(alloc) else {
+            return Scanned::OutOfMemory;
+        };
+        let found = levels.rows_between(alloc, &mut self.disk, from, to, front);
+        self.tables.put_back(levels);
+        scanned(found)
+    }
+
+    // Of each segment its rows of the keys in a range.
+    fn held_between(&self, alloc: Global, from: &[u8], to: &[u8]) -> Result<RowLists, OutOfMemory>
+        ensures { IfOk result (AreRanges from.now to.now (rows_held self.now.immutable self.now.rows)) }
+    {
+        let mut lists = RowLists::new(alloc);
+        'segments: for segment in &self.segments {
+            let rows = rows_between(alloc, &segment.mem, from, to)?;
+            lists.push(rows)?;
+        }
+        let rows = rows_between(alloc, &self.mem, from, to)?;
+        lists.push(rows)?;
+        Ok(lists)
+    }
+}
+
+/// The rows of a memtable of the keys in a range, by key, and of one key the newest first.
+fn rows_between(alloc: Global, mem: &Mem, from: &[u8], to: &[u8]) -> Result<Rows, OutOfMemory>
+    ensures { IfOk result (IsRange from.now to.now mem.now.rows) }
 {
     let mut rows = Rows::new(alloc);
-    let mut last = None;
     for row in mem.rows() {
-        add_counted(alloc, &mut rows, from, to, last, row)?;
-        last = Some(row.key);
+        add_row(alloc, &mut rows, from, to, row)?;
     }
     Ok(rows)
 }
 
-// Adds the row where it counts behind rows of that key.
-fn add_counted(
+/// Adds a copy of the row where its key is in the range.
+fn add_row(
     alloc: Global,
     rows: &mut Rows,
     from: &[u8],
     to: &[u8],
-    last: Option<&[u8]>,
     row: MemRow<'_>,
 ) -> Result<(), OutOfMemory>
-    ensures { OnOk result (rows.new ≡ rows.old ++ counted from.now to.now (option_map (λ key. key.now) last.entry) (row_shown row.entry)) }
+    ensures { OnOk result (rows.new ≡ rows.old ++ between from.now to.now (row_shown row.entry ∷ [])) }
 {
-    if counts(from, to, last, row) {
+    if is_in_range(from, to, row.key) {
         let row = copied(alloc, row)?;
         return rows.push(row);
     }
     Ok(())
 }
 
-// Whether a row behind that key is the first of its own, and a put in the range.
-fn counts(from: &[u8], to: &[u8], last: Option<&[u8]>, row: MemRow<'_>) -> bool
-    ensures { result ≡ counts from.now to.now (option_map (λ key. key.now) last.entry) (row_shown row.entry) }
-{
-    is_new(last, row.key) && is_between(from, to, row.key) && is_put(row.kind)
-}
-
-// Whether the key isn't the one before.
-fn is_new(last: Option<&[u8]>, key: &[u8]) -> bool
-    ensures { result ≡ is_new (option_map (λ key. key.now) last.entry) key.now }
-{
-    match last {
-        Some(last) => !last.cmp(key).is_eq(),
-        None => true,
-    }
-}
-
-// Whether the key is in the range.
-fn is_between(from: &[u8], to: &[u8], key: &[u8]) -> bool
+/// Whether the key is in the range.
+fn is_in_range(from: &[u8], to: &[u8], key: &[u8]) -> bool
     ensures { result ≡ in_range from.now to.now key.now }
 {
     from.cmp(key).is_le() && (to.is_empty() || key.cmp(to).is_lt())
 }
 
-fn is_put(kind: Kind) -> bool
-    ensures { result ≡ is_put kind }
-{
-    match kind {
-        Kind::Put => true,
-        Kind::Del => false,
-    }
-}
-
-// A row of its own, with copies of the key and the value.
+/// A row of its own, with copies of the key and the value.
 fn copied(alloc: Global, row: MemRow<'_>) -> Result<Row, OutOfMemory>
     ensures { IfOk result (λ copy. copy ≡ row_shown row.entry) }
 {
@@ -90,4 +92,34 @@ fn copied(alloc: Global, row: MemRow<'_>) -> Result<Row, OutOfMemory>
         key: Bytes::from_slice(alloc, row.key)?,
         value: Bytes::from_slice(alloc, row.value)?,
     })
+}
+
+/// What tables and segments have.
+fn scanned(found: Result<Rows, ScanFault>) -> Scanned
+    ensures { IsScannedOf found result }
+{
+    match found {
+        Ok(rows) => Scanned::Rows(rows),
+        Err(fault) => scanned_fault(fault),
+    }
+}
+
+/// The range wasn't read.
+fn scanned_fault(fault: ScanFault) -> Scanned
+    ensures { result ≡ fault_scanned fault }
+{
+    match fault {
+        ScanFault::Table(error) => table_scanned(error.number, error.fault),
+        ScanFault::OutOfMemory => Scanned::OutOfMemory,
+    }
+}
+
+/// A table wasn't read.
+fn table_scanned(number: u64, fault: TableFault) -> Scanned
+    ensures { result ≡ table_scanned number fault }
+{
+    match fault {
+        TableFault::OutOfMemory => Scanned::OutOfMemory,
+        _ => Scanned::ReadFault { number, fault },
+    }
 }

@@ -35,7 +35,8 @@ fn bad_batch(length: u64) -> Admit
     }
 }
 
-fn ops_refusal(ops: &[Op]) -> Option<Admit>
+/// The same of ops in order: of the first that is outside its limits.
+pub(crate) fn ops_refusal(ops: &[Op]) -> Option<Admit>
     ensures { result ≡ refusal_of_ops ops.now }
 {
     for op in ops {

@@ -6,79 +6,93 @@ ghost use Rattle.keel_disk.specs.Seen.{IsArranged};
 ghost use Rattle.keel_disk.specs.Told.{Arranges};
 ghost use Rattle.keel_machine.specs.declared.answers.Outcome.TheVariants.{Waiting};
 ghost use Rattle.keel_machine.specs.Turns as event;
-ghost use Rattle.keel_machine.specs.Turns.{Admitting, Getting, Scanning, TakingOutcome};
+ghost use Rattle.keel_machine.specs.Turns.{Admitting, TakingOutcome};
 ghost use Rattle.keel_core.specs.Trails.{shown};
-ghost use Rattle.keel_core.specs.Views.{TakesTurn, point_in, calls_left, with_device};
+ghost use Rattle.keel_core.specs.Views.{TakesTurn, last_in, calls_left, with_device, is_full, is_store_full, takes_writes};
 
+use crate::boot::Boot;
 use crate::log::{OwnLog, log_failure};
 use crate::queue::Queue;
-use crate::scanning::rows_between;
+use crate::segments::Segment;
 use crate::sizes::size_refusal;
+use crate::tables::Tables;
 use crate::trail::Trail;
-use keel_base::{Batch, Bytes, Counter, Fault, Kind, LAST_NUMBER, Listing, OutOfMemory};
+use keel_base::{Batch, Counter, Fault, LAST_NUMBER, Listing, Options, OutOfMemory};
 use keel_disk::{Device, Disk, DiskError, Rule};
 use keel_group::MAX_WAITING;
-use keel_machine::{Admit, Got, Outcome, Scanned};
+use keel_machine::{Admit, Outcome};
+use keel_manifest::{Manifest, NextFile};
 use keel_mem::Mem;
 use std::alloc::Global;
 use std::marker::Model;
 
-/// An open store over a device.
+/// A store over a device, which boots or takes writes.
 #[derive(Drop)]
 pub struct Core<D: Disk> {
     pub(crate) disk: D,
+    pub(crate) options: Options,
+    pub(crate) boot: Boot,
+    // the number of the boot that runs or ran last
+    pub(crate) boot_job: u64,
     pub(crate) trail: Trail,
-    // the rows of the published batches
+    // the full segments, oldest first, and the rows of the active one
+    pub(crate) segments: Vec<Segment>,
     pub(crate) mem: Mem,
-    pub(crate) queue: Queue,
     pub(crate) log: Option<OwnLog>,
-    // the sequence of the last published op, and of the last one that was handed to the log
+    pub(crate) tables: Tables,
+    pub(crate) queue: Queue,
+    // the sequence of the last published op, and of the last one that was handed to a log
     pub(crate) last_seq: u64,
     pub(crate) handed_seq: u64,
-    pub(crate) next_file: u64,
+    pub(crate) next_file: NextFile,
+    pub(crate) manifest: Manifest,
     // how a call of a group failed, from when on nothing is written
     pub(crate) failed: Option<Fault>,
 }
 
 impl<D: Disk> Model for Core<D> {
-    ghost use Rattle.std.specs.Coded.{codes, coded_list, coded_ℕ};
-    ghost use Rattle.std.specs.FinMap as map;
-    ghost use Rattle.keel_base.specs.Keys.{key_cmp};
+    ghost use Rattle.std.specs.Prelude.{length, option_map};
+    ghost use Rattle.keel_core.specs.Boots.{boot_shown, levels_in};
     ghost use Rattle.keel_core.specs.Orders.{IsInOrder};
-    ghost use Rattle.keel_core.specs.Flights.{flying};
+    ghost use Rattle.keel_core.specs.Flights.{flying, log_shown};
+    ghost use Rattle.keel_core.specs.Segments.{segments_shown};
     ghost use Rattle.keel_core.specs.Trails.{shown};
     ghost use Rattle.keel_core.specs.Views.{CoreView};
 
     ghost Value = { CoreView };
 
-    // The point where the trail starts has a finite map, whose code isn't found.
-    ghost coded = { Prim.hlevel (codes, map.code {R = key_cmp} (coded_list coded_ℕ) (coded_list coded_ℕ)) };
-
     ghost view = { λ c. record {
       device = D.seen c.disk;
+      options = c.options;
+      boot = boot_shown c.boot;
+      boot_job = c.boot_job;
       trail = shown c.trail;
-      log = c.log;
+      immutable = segments_shown c.segments.items;
+      rows = c.mem.rows;
+      log = log_shown c.log;
+      levels = levels_in c.tables;
       waiting = c.queue.waiting.items;
       group = flying c.queue.group;
       outcomes = c.queue.outcomes.items;
       last_ticket = c.queue.last_ticket;
       job = c.queue.job;
       failed = c.failed;
-      next_file = c.next_file;
+      next_file = c.next_file.number;
+      manifest = option_map (λ used. used.number) c.manifest.in_use;
     } };
 
-    ghost invariant = { λ c. IsInOrder c.mem c.trail c.queue c.log c.failed c.last_seq c.handed_seq c.next_file };
+    ghost invariant = { λ c. IsInOrder c.mem c.trail c.queue (length c.segments.items) (boot_shown c.boot) c.log c.failed c.last_seq c.handed_seq c.next_file.number };
 }
 
 impl<D: Disk> Core<D> {
     /// The sequence of the store's point: what the opening found, and then the last published one.
     pub fn last_seq(&self) -> u64
-        ensures { result ≡ (point_in self.now).seq }
+        ensures { result ≡ last_in self.now }
     {
         self.last_seq
     }
 
-    /// The batches that the opening read, and those since.
+    /// The batches since the opening.
     pub fn trail(&self) -> &Trail
         ensures { shown result.now ≡ self.now.trail }
     {
@@ -92,6 +106,9 @@ impl<D: Disk> Core<D> {
         if let Some(refusal) = size_refusal(&batch) {
             return refusal;
         }
+        if !self.takes_writes() {
+            return Admit::Booting;
+        }
         match self.failed {
             Some(fault) => return Admit::Stopped(log_failure(fault)),
             None => {}
@@ -102,6 +119,12 @@ impl<D: Disk> Core<D> {
         }
         if self.queue.last_ticket >= LAST_NUMBER {
             return Admit::Spent(Counter::Ticket);
+        }
+        if self.is_store_full() {
+            return Admit::Full {
+                active: self.mem.weight(),
+                immutables: self.segments.len() as u32,
+            };
         }
         let waiting = self.queue.waiting.waiting();
         if waiting >= MAX_WAITING {
@@ -133,33 +156,6 @@ impl<D: Disk> Core<D> {
         self.queue.take_outcome(ticket)
     }
 
-    /// The value of a key among the published batches.
-    pub fn get(&mut self, alloc: Global, key: &[u8]) -> Got
-        ensures turn { TakesTurn self.old (Getting key.now result) self.new }
-    {
-        match self.mem.get(key) {
-            Some(found) => match found.kind {
-                Kind::Put => match Bytes::from_slice(alloc, found.value) {
-                    Ok(copy) => Got::Value(copy),
-                    Err(_) => Got::OutOfMemory,
-                },
-                Kind::Del => Got::Absent,
-            },
-            None => Got::Absent,
-        }
-    }
-
-    /// The published keys of a range with their values, by key: from one key on and below another. An empty `to` is no
-    /// upper bound.
-    pub fn scan(&mut self, alloc: Global, from: &[u8], to: &[u8]) -> Scanned
-        ensures turn { TakesTurn self.old (Scanning from.now to.now result) self.new }
-    {
-        match rows_between(alloc, &self.mem, from, to) {
-            Ok(rows) => Scanned::Rows(rows),
-            Err(OutOfMemory) => Scanned::OutOfMemory,
-        }
-    }
-
     /// The files of the directory with their sizes, in the order of their printed names.
     pub fn list(&mut self, alloc: Global) -> Result<Listing, DiskError>
         ensures turn { TakesTurn self.old (event.Listing result) self.new }
@@ -172,6 +168,27 @@ impl<D: Disk> Core<D> {
         ensures { D.seen result ≡ self.device }
     {
         self.disk
+    }
+
+    // Whether the boot has cleared.
+    fn takes_writes(&self) -> bool
+        ensures { takes_writes self.now.boot ≡ result }
+    {
+        matches!(self.boot, Boot::Cleared)
+    }
+
+    // Whether the active segment takes no further group.
+    pub(crate) fn is_full(&self) -> bool
+        ensures { result ≡ is_full self.now }
+    {
+        self.mem.weight() >= self.options.write_buffer
+    }
+
+    // Whether no other segment may follow it either.
+    pub(crate) fn is_store_full(&self) -> bool
+        ensures { result ≡ is_store_full self.now }
+    {
+        self.is_full() && self.segments.len() >= self.options.max_immutables as usize
     }
 }
 

@@ -1,14 +1,14 @@
-// The batches that the opening read, and those since.
+// The batches since the opening.
 ghost use Rattle.std.specs.Prelude.{◌≡◌, ◌+◌, ◌≤◌, [], ◌++◌, length, vec_len, vec_capacity, OnOk};
 
-use keel_base::{Batch, Sequence};
-use keel_batch::Numbered;
+use keel_base::Batch;
 use std::alloc::{AllocError, Global};
 
-/// The batches that the opening read, those that were handed to the store's log since, and how many of these are published.
+/// The number of the last op at the opening, the batches that were handed to a log since, and how many of these are
+/// published.
 #[derive(Drop)]
 pub struct Trail {
-    read: Sequence<Numbered>,
+    start: u64,
     batches: Vec<Batch>,
     published: usize,
     floor: usize,
@@ -18,25 +18,24 @@ pub struct Trail {
 
 impl Trail {
     ghost use Rattle.keel_machine.specs.Admission.{ops_of};
-    ghost use Rattle.keel_machine.specs.States.{handed, published as all_published};
-    ghost use Rattle.keel_core.specs.Trails.{shown, read_in, log_in, limbo_in, IsEmptyTrail};
+    ghost use Rattle.keel_core.specs.Trails.{shown, log_in, limbo_in, IsEmptyTrail, handed, published as all_published, cleared};
 
-    pub(crate) fn new(alloc: Global, read: Sequence<Numbered>) -> Trail
-        ensures { IsEmptyTrail read result }
+    pub(crate) fn new(alloc: Global, start: u64) -> Trail
+        ensures { IsEmptyTrail start result }
     {
         Trail {
-            read,
+            start,
             batches: Vec::new(alloc),
             published: 0,
             floor: 0,
         }
     }
 
-    /// The batches that the opening read, in their order.
-    pub fn read(&self) -> &[Numbered]
-        ensures { result.now ≡ read_in self.now }
+    /// The number of the last op at the opening.
+    pub fn start(&self) -> u64
+        ensures { result ≡ (shown self.now).start }
     {
-        self.read.as_slice()
+        self.start
     }
 
     /// The batches that were published since, in their order.
@@ -94,5 +93,16 @@ impl Trail {
         if sync {
             self.floor = self.published;
         }
+    }
+
+    /// None of the published batches must be lost. Nothing is in limbo.
+    pub(crate) fn clear(&mut self)
+        ensures shown { shown self.new ≡ cleared (shown self.old) }
+        ensures limbo { limbo_in self.new ≡ [] }
+        ensures count { vec_len self.new.batches ≤ vec_len self.old.batches }
+        ensures room { vec_capacity self.new.batches ≡ vec_capacity self.old.batches }
+    {
+        self.batches.truncate(self.published);
+        self.floor = self.published;
     }
 }

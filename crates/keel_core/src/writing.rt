@@ -1,33 +1,36 @@
 // The write step: groups go to the log, one call of the device a step, and are published.
 //
-//   no group is in flight          a group is in flight, by its next act
+//   no group is in flight             a group is in flight, by its next act
 //
-//   no log   ----- create -------> SyncDirectory
-//                                    | sync_dir
-//                                    v
-//                                  AddRecords
-//                                    | append
-//   a log    ----- append -----------+-----------> SyncLog      where a batch asks for a sync
-//                                    |                | sync
-//                                    v                v
-//   no group <------------------ published <----------+
+//   a full segment --- sync --------> MakeLog
+//                                       | create
+//                                       v
+//                                     SyncDirectory
+//                                       | sync_dir, and another segment is active
+//                                       v
+//                                     AddRecords
+//                                       | append
+//   another one ------ append ----------+-----------> SyncLog      where a batch asks for a sync
+//                                       |                | sync
+//                                       v                v
+//   no group <------------------ published <-------------+
 //
 // A call that fails ends its group, unpublished, and from then on nothing is written. The group is formed once its
 // first call was made, since without memory all goes on waiting.
-ghost use Rattle.std.specs.Prelude.{◌≡◌, ◌+◌, ◌<◌, ◌≤◌, ◌^◌, ◌&&◌, nat_le, None, IsNone, IsSome, IfNone, IfSome, IfOk};
+ghost use Rattle.std.specs.Prelude.{◌≡◌, ◌+◌, ◌<◌, ◌≤◌, ◌^◌, None, Some, IsNone, IsSome, IfNone, IfSome, IfOk, true};
 ghost use Rattle.keel_batch.specs.Batches.{payloads_behind};
 ghost use Rattle.keel_frag.specs.Writing.{records_bytes};
 ghost use Rattle.keel_group.specs.Forming.{EachIsAdmissible, HasRoomFor, next_size};
-ghost use Rattle.keel_machine.specs.Admission.{count_ops, ops_of};
-ghost use Rattle.keel_machine.specs.Tests.{when};
+ghost use Rattle.keel_machine.specs.Admission.{ops_of};
+ghost use Rattle.keel_machine.specs.Tests.{first_some};
 ghost use Rattle.keel_machine.specs.Turns.{Writing};
 ghost use Rattle.keel_machine.specs.WritingAfter.{failure_of};
-ghost use Rattle.keel_core.specs.Orders.{HasLog};
-ghost use Rattle.keel_core.specs.Queues.{goes_on};
-ghost use Rattle.keel_core.specs.Steps.{Makes, IsNext, NextIs, formed, handed_over, all_published, published_step, done, done_step, tried, rested, stopped};
-ghost use Rattle.keel_core.specs.Views.{TakesTurn, MakesCall, ComesNearer, CanGoOn, IsRest, Finds, draws_next, rest_of};
+ghost use Rattle.keel_resume.specs.Drafts.{count_ops};
+ghost use Rattle.keel_core.specs.Flights.{is_synced, next_flying};
+ghost use Rattle.keel_core.specs.Steps.{Makes, IsNotSwitch, NextIs, formed, handed_over, spoilt, all_published, published_step, done, done_step, tried, rested, stopped};
+ghost use Rattle.keel_core.specs.Views.{TakesTurn, MakesCall, ComesNearer, CanGoOn, Cleared, IsRest, IsStill, Finds, draws_next, rest_of, rests_of};
 
-use crate::flight::Act;
+use crate::flight::{Act, first_act};
 use crate::log::{OwnLog, log_failure};
 use crate::placing::place;
 use crate::queue::count_ops;
@@ -70,6 +73,7 @@ impl<D: Disk> Core<D> {
         ensures none { IfNone result (CanGoOn self.now) }
         ensures rests { IfSome result IsRest }
         ensures finds { IfSome result (Finds self.now) }
+        ensures still { IsStill self.now.boot self.now.waiting self.now.group }
     {
         if let Some(job) = held {
             if job != self.queue.job {
@@ -82,6 +86,17 @@ impl<D: Disk> Core<D> {
         if self.queue.group.is_some() {
             return self.file_rest();
         }
+        self.group_rest()
+    }
+
+    // The same where no group is in flight.
+    fn group_rest(&self) -> Option<WriteStep>
+        requires none { self.now.group ≡ None }
+        ensures rest { result ≡ first_some (rests_of self.now None) }
+        ensures none { IfNone result (CanGoOn self.now) }
+        ensures rests { IfSome result IsRest }
+        ensures finds { IfSome result (Finds self.now) }
+    {
         let batches = self.queue.waiting.waiting();
         if batches == 0 {
             return Some(WriteStep::Idle);
@@ -92,35 +107,52 @@ impl<D: Disk> Core<D> {
                 failure: log_failure(fault),
             });
         }
+        if self.is_store_full() {
+            return Some(WriteStep::Full {
+                active: self.mem.weight(),
+                immutables: self.segments.len() as u32,
+            });
+        }
         if self.queue.job >= LAST_NUMBER {
             return Some(WriteStep::Spent(Counter::JobNumber));
         }
-        self.file_rest()
+        if self.is_full() && self.next_file.number() >= LAST_NUMBER {
+            return Some(WriteStep::Spent(Counter::FileNumber));
+        }
+        None
     }
 
-    // A log that is to be made needs a number below the end.
+    // The same where a group is in flight: a log that is to be made needs a number below the end.
     fn file_rest(&self) -> Option<WriteStep>
-        ensures { result ≡ when (draws_next self.now.log self.now.group && nat_le (2 ^ 56) self.now.next_file) (WriteStep.Spent Counter.FileNumber) }
+        requires some { IsSome self.now.group }
+        ensures rest { result ≡ first_some (rests_of self.now self.now.group) }
+        ensures none { IfNone result (CanGoOn self.now) }
+        ensures rests { IfSome result IsRest }
+        ensures finds { IfSome result (Finds self.now) }
     {
-        match self.next_act() {
-            Act::MakeLog if self.next_file >= LAST_NUMBER => {
-                Some(WriteStep::Spent(Counter::FileNumber))
-            }
-            _ => None,
+        if self.draws_next() && self.next_file.number() >= LAST_NUMBER {
+            return Some(WriteStep::Spent(Counter::FileNumber));
+        }
+        None
+    }
+
+    // Whether the next call of the group in flight makes a log.
+    fn draws_next(&self) -> bool
+        ensures { result ≡ draws_next self.now.group }
+    {
+        match &self.queue.group {
+            Some(flight) => flight.next.draws(),
+            None => false,
         }
     }
 
     // The next act of the group in flight, or the first one of the next group.
     fn next_act(&self) -> Act
-        ensures next { NextIs result self.now.group self.now.log }
-        ensures log { HasLog result self.now.log }
+        ensures next { NextIs result self.now self.now.group }
     {
         match &self.queue.group {
             Some(flight) => flight.next,
-            None => match self.log {
-                Some(_) => Act::AddRecords,
-                None => Act::MakeLog,
-            },
+            None => first_act(self.is_full()),
         }
     }
 
@@ -145,6 +177,9 @@ impl<D: Disk> Core<D> {
         ensures nearer { ComesNearer self.old result self.new }
     {
         let act = self.next_act();
+        if let Act::SyncDirectory { log } = act {
+            return self.switch(alloc, log);
+        }
         match self.make_call(alloc, act) {
             Ok(()) => self.done(act),
             Err(DiskError::Fault(fault)) => self.give_up(act, fault),
@@ -155,7 +190,7 @@ impl<D: Disk> Core<D> {
     // The next group makes its first call, and is then in flight.
     fn start(&mut self, alloc: Global) -> WriteStep
         requires can { CanGoOn self.old }
-        requires none { IsNone self.old.group }
+        requires none { self.old.group ≡ None }
         ensures turn { MakesCall self.old result self.new }
         ensures nearer { ComesNearer self.old result self.new }
     {
@@ -165,11 +200,11 @@ impl<D: Disk> Core<D> {
         let act = self.next_act();
         match self.make_call(alloc, act) {
             Ok(()) => {
-                self.form(prepared, act);
+                self.form(prepared);
                 self.done(act)
             }
             Err(DiskError::Fault(fault)) => {
-                self.form(prepared, act);
+                self.form(prepared);
                 self.give_up(act, fault)
             }
             Err(DiskError::OutOfMemory) => WriteStep::OutOfMemory,
@@ -178,24 +213,27 @@ impl<D: Disk> Core<D> {
 
     // Makes the call of an act.
     fn make_call(&mut self, alloc: Global, act: Act) -> Result<(), DiskError>
-        requires log { HasLog act self.old.log }
-        requires file { act ≡ Act.MakeLog → self.old.next_file < 2 ^ 56 }
+        requires next { NextIs act self.old self.old.group }
+        requires can { CanGoOn self.old }
+        requires plain { IsNotSwitch act }
         ensures { Makes act self.old result self.new }
     {
         match act {
-            Act::MakeLog => self.disk.create(alloc, FileName::Log(self.next_file)),
-            Act::SyncDirectory { .. } => self.disk.sync_dir(alloc),
-            Act::AddRecords => self.append_records(alloc),
-            Act::SyncLog => {
+            Act::CloseLog | Act::SyncLog => {
                 let log = self.log.unwrap();
                 self.disk.sync(alloc, FileName::Log(log.number))
             }
+            Act::MakeLog => self
+                .disk
+                .create(alloc, FileName::Log(self.next_file.number())),
+            Act::SyncDirectory { .. } => unreachable!(),
+            Act::AddRecords => self.append_records(alloc),
         }
     }
 
     // Appends a record for each batch of the group.
     fn append_records(&mut self, alloc: Global) -> Result<(), DiskError>
-        requires { HasLog Act.AddRecords self.old.log }
+        requires { CanGoOn self.old }
         ensures { Makes Act.AddRecords self.old result self.new }
     {
         let log = self.log.unwrap();
@@ -209,46 +247,39 @@ impl<D: Disk> Core<D> {
             .disk
             .append(alloc, FileName::Log(log.number), bytes.as_slice());
         if answer.is_ok() {
-            self.log = Some(OwnLog {
-                number: log.number,
-                size,
-            });
+            self.log = Some(OwnLog { size, ..log });
         }
         answer
     }
 
     // The next group of those that wait is in flight.
-    fn form(&mut self, prepared: Formed, first: Act)
-        requires none { IsNone self.old.group }
+    fn form(&mut self, prepared: Formed)
+        requires none { self.old.group ≡ None }
         requires room { HasRoomFor (next_size self.old.waiting) prepared }
+        requires cleared { self.old.boot ≡ Cleared }
         requires calm { self.old.failed ≡ None }
         requires job { self.old.job < 2 ^ 56 }
-        requires log { HasLog first self.old.log }
-        ensures { self.new ≡ formed first self.old }
+        ensures { self.new ≡ formed self.old }
     {
-        self.queue.form(prepared, first);
+        let switches = self.is_full();
+        self.queue.form(prepared, switches);
     }
 
     // What an act leaves whose call was answered Ok.
     fn done(&mut self, act: Act) -> WriteStep
-        requires next { IsNext act self.old.group }
+        requires next { next_flying self.old.group ≡ Some act }
+        requires plain { IsNotSwitch act }
         requires file { act ≡ Act.MakeLog → self.old.next_file < 2 ^ 56 }
         ensures view { self.new ≡ done act self.old }
         ensures step { result ≡ done_step act self.old }
     {
         match act {
+            Act::CloseLog => self.queue.move_on(Act::MakeLog, Call::Sync),
             Act::MakeLog => {
-                let log = self.next_file;
-                self.next_file = log + 1;
+                let log = self.next_file.draw();
                 self.queue.move_on(Act::SyncDirectory { log }, Call::Create)
             }
-            Act::SyncDirectory { log } => {
-                self.log = Some(OwnLog {
-                    number: log,
-                    size: 0,
-                });
-                self.queue.move_on(Act::AddRecords, Call::SyncDir)
-            }
+            Act::SyncDirectory { .. } => unreachable!(),
             Act::AddRecords => {
                 if self.hand_over() {
                     self.queue.move_on(Act::SyncLog, Call::Append)
@@ -261,8 +292,8 @@ impl<D: Disk> Core<D> {
     }
 
     // What an act leaves whose call failed: its group is over, and from now on nothing is written.
-    fn give_up(&mut self, act: Act, fault: Fault) -> WriteStep
-        requires next { IsNext act self.old.group }
+    pub(crate) fn give_up(&mut self, act: Act, fault: Fault) -> WriteStep
+        requires next { next_flying self.old.group ≡ Some act }
         requires file { act ≡ Act.MakeLog → self.old.next_file < 2 ^ 56 }
         ensures view { self.new ≡ stopped fault (tried act self.old) }
         ensures step { result ≡ WriteStep.Failed (failure_of fault) }
@@ -274,26 +305,39 @@ impl<D: Disk> Core<D> {
         WriteStep::Failed(failure)
     }
 
-    // A number is used up though the call failed, and batches may be found in the log.
+    // A number is used up though the call failed, batches may be found in the log, and a log takes nothing more.
     fn tried(&mut self, act: Act)
-        requires next { IsNext act self.old.group }
+        requires next { next_flying self.old.group ≡ Some act }
         requires file { act ≡ Act.MakeLog → self.old.next_file < 2 ^ 56 }
         ensures { self.new ≡ tried act self.old }
     {
         match act {
-            Act::MakeLog => self.next_file += 1,
+            Act::CloseLog | Act::SyncLog => self.spoil_log(),
+            Act::MakeLog => {
+                let _ = self.next_file.draw();
+            }
+            Act::SyncDirectory { .. } => {}
             Act::AddRecords => {
+                self.spoil_log();
                 let _ = self.hand_over();
             }
-            Act::SyncDirectory { .. } | Act::SyncLog => {}
+        }
+    }
+
+    // A call on the log failed.
+    fn spoil_log(&mut self)
+        ensures { self.new ≡ spoilt self.old }
+    {
+        if let Some(log) = &mut self.log {
+            log.failed = true;
         }
     }
 
     // The batches of the group in flight were handed to the log. Says whether it is to be synced.
     fn hand_over(&mut self) -> bool
-        requires { IsNext Act.AddRecords self.old.group }
+        requires { next_flying self.old.group ≡ Some Act.AddRecords }
         ensures view { self.new ≡ handed_over self.old }
-        ensures sync { result ≡ goes_on self.old.group }
+        ensures sync { result ≡ is_synced self.old.group }
     {
         let sync = self.queue.is_synced();
         let batches = self.queue.take_batches();

@@ -1,2 +1,3 @@
 pub mod FirstTests
 pub mod Stopping
+pub mod BootLength

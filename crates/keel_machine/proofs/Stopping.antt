@@ -65,5 +65,5 @@ stopping paranoid (Some failure) severe =
 
 pub log_failure_stops : LogFailureStops
 log_failure_stops s fault =
-    stopping s.failing.paranoid (standing_of s.failing.paranoid (s.failing.failures ++ failure_of fault ∷ []))
-    (behind s.failing.paranoid s.failing.failures (failure_of fault) (log_severe s.failing.paranoid fault))
+    stopping s.options.paranoid (standing_of s.options.paranoid (s.failing.failures ++ failure_of fault ∷ []))
+    (behind s.options.paranoid s.failing.failures (failure_of fault) (log_severe s.options.paranoid fault))

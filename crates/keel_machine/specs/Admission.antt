@@ -11,29 +11,25 @@ use Rattle.keel_base.specs.Weight.{weight_of}
 use Rattle.keel_handler.specs.Failures.{standing_of, stopping_of}
 use Rattle.keel_group.specs.declared.formed.TheConstants.{MAX_WAITING}
 use Rattle.keel_machine.specs.declared.answers.Admit.{Admit}
-use Rattle.keel_machine.specs.declared.answers.Admit.TheVariants.{Queued, BadSize, Stopped, Spent, QueueFull, OutOfMemory}
+use Rattle.keel_machine.specs.declared.answers.Admit.TheVariants.{Queued, BadSize, Booting, Stopped, Spent, Full, QueueFull, OutOfMemory}
 use Rattle.keel_machine.specs.declared.answers.Part.TheVariants.{Key, Value}
 use Rattle.keel_machine.specs.declared.answers.Part.TheVariants as part
 use Rattle.keel_machine.specs.declared.answers.Outcome.{Outcome}
 use Rattle.keel_machine.specs.declared.answers.Outcome.TheVariants as outcome
-use Rattle.keel_machine.specs.States.{State, Group, point_of}
+use Rattle.keel_machine.specs.States.{State, Group, is_booting, point_of}
 use Rattle.keel_machine.specs.Tests.{first_some, when}
+use Rattle.keel_resume.specs.Drafts.{count_ops}
 
 -- the error that stands: of the failures since the opening the first of the greatest severity
 abbrev pub standing : State → Option Failure
-standing s = standing_of s.failing.paranoid s.failing.failures
+standing s = standing_of s.options.paranoid s.failing.failures
 
 -- the standing error where it stops writes
 abbrev pub stopping : State → Option Failure
-stopping s = stopping_of s.failing.paranoid s.failing.failures
+stopping s = stopping_of s.options.paranoid s.failing.failures
 
 abbrev pub ops_of : List Batch → List (List Op)
 ops_of batches = map (λ batch. batch.ops) batches
-
--- how many ops these batches have
-abbrev pub count_ops : List (List Op) → ℕ
-count_ops [] = 0
-count_ops (ops ∷ batches) = length ops + count_ops batches
 
 -- the sequence of the last published op
 abbrev pub last_seq : State → ℕ
@@ -90,6 +86,22 @@ is_sequence_spent s batch = nat_lt LAST_NUMBER (seq_with s batch)
 abbrev pub is_ticket_spent : State → Bool
 is_ticket_spent s = nat_le LAST_NUMBER s.writing.last_ticket
 
+-- what batches weigh together
+abbrev pub weight_of_batches : List (List Op) → ℕ
+weight_of_batches [] = 0
+weight_of_batches (ops ∷ batches) = weight_of ops + weight_of_batches batches
+
+abbrev pub active_weight : State → ℕ
+active_weight s = weight_of_batches s.segments.active.batches
+
+-- the active segment takes no further group
+abbrev pub is_full : State → Bool
+is_full s = nat_le s.options.write_buffer (active_weight s)
+
+-- and no other may follow it
+abbrev pub is_store_full : State → Bool
+is_store_full s = is_full s && nat_le s.options.max_immutables (length s.segments.immutable)
+
 abbrev pub is_queue_full : State → Bool
 is_queue_full s = nat_le MAX_WAITING (length s.writing.waiting)
 
@@ -97,9 +109,11 @@ is_queue_full s = nat_le MAX_WAITING (length s.writing.waiting)
 abbrev pub refusals : State → Batch → List (Option Admit)
 refusals s batch =
     size_refusal batch
+    ∷ when (is_booting s.mode.phase) Booting
     ∷ option_map Stopped (stopping s)
     ∷ when (is_sequence_spent s batch) (Spent Sequence)
     ∷ when (is_ticket_spent s) (Spent Ticket)
+    ∷ when (is_store_full s) (Full (active_weight s) (length s.segments.immutable))
     ∷ when (is_queue_full s) (QueueFull (length s.writing.waiting))
     ∷ []
 

@@ -8,7 +8,7 @@ use Rattle.keel_disk.specs.Directory.{Named}
 use Rattle.keel_disk.specs.Image.{restarted}
 use Rattle.keel_disk.specs.Plain.{PlainImage, image_read}
 use Rattle.keel_disk.specs.Told.{Told, Crashes, CrashedTo}
-use Rattle.keel_reading.specs.Reading.{Reads}
+use Rattle.keel_directory.specs.Standing.{ReadsAs}
 use Rattle.keel_disk.specs.Seen.{Seen, IsArranged}
 use Rattle.keel_machine.specs.States.{State, Story, Footing, Known, Unknown, Mode, Shut, Nothing, Crashed, is_open, is_left, cut_story, point_of}
 
@@ -33,7 +33,7 @@ pub record LeavesForged (before after : Told) : Type 0 where
 pub record IsPrefix (count : ℕ) (story : Story) (image : Named (List ℕ)) : Type 0 where
   pub not_lost : story.floor ≤ count
   pub within : count ≤ length story.log + length story.limbo
-  pub reads : Reads image (point_of (cut_story count story))
+  pub reads : ReadsAs image (point_of (cut_story count story))
 
 -- where a store is or was open, a crash leaves a first part of its story
 abbrev pub LeavesOf : Bool → ℕ → Story → Named (List ℕ) → Type 0

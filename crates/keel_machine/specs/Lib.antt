@@ -4,9 +4,11 @@ pub mod Outside
 pub mod Admission
 pub mod Writing
 pub mod WritingAfter
+pub mod Resuming
 pub mod Opening
 pub mod Crash
 pub mod Reads
 pub mod Turns
 pub mod Laws
+pub mod BootLength
 pub mod WorkedRows

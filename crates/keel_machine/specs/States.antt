@@ -1,12 +1,16 @@
 -- The machine's states: plain data, one record for each part.
-use Rattle.std.specs.Prelude.{◌≡◌, ℕ, ◌+◌, Bool, true, false, List, [], ◌∷◌, ◌++◌, length, take, drop, Option, Some, None, if◌then◌else◌}
+use Rattle.std.specs.Prelude.{◌≡◌, ℕ, ◌+◌, Bool, true, false, List, [], ◌++◌, length, map, take, drop, Option, None, if◌then◌else◌}
 use Rattle.keel_base.specs.Points.{Point, fold_batches}
 use Rattle.keel_base.specs.declared.failure.Failure.{Failure}
 use Rattle.keel_base.specs.declared.op.Batch.{Batch}
 use Rattle.keel_base.specs.declared.op.Op.{Op}
+use Rattle.keel_base.specs.declared.options.Options.{Options}
+use Rattle.keel_directory.specs.TableFiles.{TableFile}
 use Rattle.keel_disk.specs.Seen.{Seen}
+use Rattle.keel_edit.specs.declared.edit.Added.{Added}
 use Rattle.keel_group.specs.Queue.{Ticketed}
 use Rattle.keel_machine.specs.declared.answers.Outcome.{Outcome}
+use Rattle.keel_resume.specs.Plans.{Job}
 
 -- Whether the device is known to bear out the story: it tells its state, was at rest when the run began, and no crash
 -- left a forged image since.
@@ -14,9 +18,10 @@ pub data Footing : Type 0 where
   Known : Footing
   Unknown : Footing
 
--- no store is open, or one is
+-- no store is open; one is whose boot hasn't cleared; or one is whose boot has
 pub data Phase : Type 0 where
   Shut : Phase
+  Booting : Phase
   Open : Phase
 
 -- how the story's device was left when a store was last open on it: there is no story yet, or none to build on; by a
@@ -32,7 +37,12 @@ pub record Mode : Type 0 where
 
 abbrev pub is_open : Phase → Bool
 is_open Shut = false
+is_open Booting = true
 is_open Open = true
+
+abbrev pub is_booting : Phase → Bool
+is_booting Booting = true
+is_booting _ = false
 
 abbrev pub is_left : Leaving → Bool
 is_left Nothing = false
@@ -89,35 +99,41 @@ pub record Writing : Type 0 where
   pub outcomes : List (ℕ × Outcome)
   pub last_ticket : ℕ
 
--- the failures since the opening, oldest first, and whether doubtful ones are taken as severe
+-- the failures since the last clear, oldest first
 pub record Failing : Type 0 where
   pub failures : List Failure
-  pub paranoid : Bool
 
--- a log of a segment: its number, how many bytes were appended to it, and whether a call on it failed
+-- the log that batches are appended to: its number, how many bytes were appended, and whether a call on it failed
 pub record SegmentLog : Type 0 where
   pub number : ℕ
   pub size : ℕ
   pub failed : Bool
 
--- published batches that are in no table, and the logs that have them
+-- published batches that are in no table and that no further ones join, and the numbers of the logs that have them
 pub record Segment : Type 0 where
   pub batches : List (List Op)
-  pub logs : List SegmentLog
+  pub logs : List ℕ
+
+-- the one that published batches join; while the store boots it has no log
+pub record Active : Type 0 where
+  pub batches : List (List Op)
+  pub log : Option SegmentLog
 
 -- the full segments, oldest first, and the one that batches go to
 pub record Segments : Type 0 where
   pub immutable : List Segment
-  pub active : Segment
+  pub active : Active
 
 -- what a call of a group is for
 pub data Act : Type 0 where
+  -- the log of a full segment gets firm, another is made, and its name gets firm
+  CloseLog : Act
   MakeLog : Act
   SyncDirectory : Act
   AddRecords : Act
   SyncLog : Act
 
--- how many calls of its plan a job has made, and the log that it handed to `create`, until that is a segment's
+-- how many calls of its plan a group has made, and the log that it handed to `create`, until that is a segment's
 pub record Progress : Type 0 where
   pub made : ℕ
   pub log : Option ℕ
@@ -139,35 +155,49 @@ pub record Slot (J : Type 0) : Type 0 where
   pub number : ℕ
   pub running : Option J
 
+-- a boot, and how many steps it has made
+pub record Resumption : Type 0 where
+  pub steps : ℕ
+  pub job : Job
+
 pub record Jobs : Type 0 where
   pub write : Slot Group
+  pub resume : Slot Resumption
 
+-- the next file, the manifest in use where there is one, and the last op that is in a table
 pub record Numbers : Type 0 where
   pub next_file : ℕ
+  pub manifest : Option ℕ
+  pub in_tables : ℕ
 
 pub record State : Type 0 where
   pub device : Seen
   pub footing : Footing
+  pub options : Options
   pub mode : Mode
   pub story : Story
   pub segments : Segments
+  -- the tables, by level, then by number; their files are known of a known device alone
+  pub levels : List TableFile
   pub writing : Writing
   pub failing : Failing
   pub jobs : Jobs
   pub numbers : Numbers
 
--- the newest log of a segment
-abbrev pub newest_log : List SegmentLog → Option SegmentLog
-newest_log [] = None
-newest_log (log ∷ logs) = Some log
-
 -- the log that batches are appended to, once there is one
 abbrev pub active_log : State → Option SegmentLog
-active_log s = newest_log s.segments.active.logs
+active_log s = s.segments.active.log
 
 -- a log without a byte
 abbrev pub new_log : ℕ → SegmentLog
 new_log number = record { number = number; size = 0; failed = false }
+
+abbrev pub no_batches : Active
+no_batches = record { batches = []; log = None }
+
+-- the tables as the version has them
+abbrev pub entries_in : List TableFile → List Added
+entries_in levels = map (λ (table : TableFile). table.entry) levels
 
 abbrev pub with_device : Seen → State → State
 with_device device s = record s { device = device }

@@ -1,32 +1,37 @@
 -- The turns of the machine: from a state, a call may be answered so and leave that state.
-use Rattle.std.specs.Prelude.{◌≡◌, ℕ, List, [], ◌∷◌, None, Option, Result, IfOk}
+use Rattle.std.specs.Prelude.{◌≡◌, ℕ, List, [], ◌∷◌, Option, Result, IfOk}
 use Rattle.keel_base.specs.declared.op.Batch.{Batch}
+use Rattle.keel_base.specs.declared.options.Options.{Options}
 use Rattle.keel_base.specs.declared.listing.Entry.{Entry}
 use Rattle.keel_disk.specs.declared.error.DiskError.{DiskError}
 use Rattle.keel_disk.specs.declared.rule.Pick.{Pick}
 use Rattle.keel_disk.specs.Counts.{disk_fault}
 use Rattle.keel_disk.specs.Listings.{IsListing}
 use Rattle.keel_disk.specs.Told.{TellsListing}
-use Rattle.keel_reading.specs.declared.refusal.OpenRefusal.{OpenRefusal}
-use Rattle.keel_reading.specs.declared.replay.FoundLogs.{FoundLogs}
+use Rattle.keel_open.specs.declared.refusal.OpenRefusal.{OpenRefusal}
 use Rattle.keel_disk.specs.Seen.{IsQuiet, Seen}
 use Rattle.keel_machine.specs.declared.answers.Admit.{Admit}
 use Rattle.keel_machine.specs.declared.answers.Got.{Got}
 use Rattle.keel_machine.specs.declared.answers.Outcome.{Outcome}
 use Rattle.keel_machine.specs.declared.answers.Scanned.{Scanned}
+use Rattle.keel_machine.specs.declared.steps.ResumeStep.{ResumeStep}
 use Rattle.keel_machine.specs.declared.steps.WriteStep.{WriteStep}
 use Rattle.keel_machine.specs.Admission.{AdmitAnswers, admit_after, outcome_of, without_outcome}
 use Rattle.keel_machine.specs.Crash.{CrashAnswers, crash_after}
-use Rattle.keel_machine.specs.Opening.{OpenAnswers, open_after, finished}
+use Rattle.keel_machine.specs.Opening.{Found, OpenAnswers, open_after, finished}
 use Rattle.keel_machine.specs.Reads.{GetAnswers, ScanAnswers}
+use Rattle.keel_machine.specs.Resuming.{ResumeAnswers, resume_after}
 use Rattle.keel_machine.specs.States.{State, with_device}
 use Rattle.keel_machine.specs.WritingAfter.{WriteAnswers, write_after}
+use Rattle.keel_resume.specs.Drafts.{Draft}
 
 -- a call of the machine with its answer
 pub data Event : Type 0 where
-  Opening : Result FoundLogs OpenRefusal → Event
+  Opening : Options → Result Found OpenRefusal → Event
   Admitting : Batch → Admit → Event
   Writing : Option ℕ → WriteStep → Event
+  -- with the tables that the boot has before it
+  Resuming : List Draft → Option ℕ → ResumeStep → Event
   TakingOutcome : ℕ → Outcome → Event
   Getting : List ℕ → Got → Event
   Scanning : List ℕ → List ℕ → Scanned → Event
@@ -43,21 +48,23 @@ pub record ListAnswers (s : State) (answer : Result (List Entry) DiskError) (dev
 
 -- each answer with its exact cause, and what the device then shows
 abbrev pub Answers : State → Event → Seen → Type 0
-Answers s (Opening answer) device = OpenAnswers s answer device
+Answers s (Opening options answer) device = OpenAnswers s answer device
 Answers s (Admitting batch answer) device = AdmitAnswers s batch answer × (device ≡ s.device)
 Answers s (Writing held step) device = WriteAnswers s held step device
+Answers s (Resuming drafts held step) device = ResumeAnswers s drafts held step device
 Answers s (TakingOutcome ticket outcome) device = (outcome ≡ outcome_of s ticket) × (device ≡ s.device)
-Answers s (Getting key got) device = GetAnswers s key got × IsQuiet s.device None device
-Answers s (Scanning from to scanned) device = ScanAnswers s from to scanned × IsQuiet s.device None device
+Answers s (Getting key got) device = GetAnswers s key got device
+Answers s (Scanning from to scanned) device = ScanAnswers s from to scanned device
 Answers s (Listing answer) device = ListAnswers s answer device
 Answers s (Crashing pick kept) device = CrashAnswers s pick kept device
 Answers s Finishing device = device ≡ s.device
 
 -- the state behind the call, but for the device
 abbrev pub behind : State → Event → State
-behind s (Opening answer) = open_after s answer
+behind s (Opening options answer) = open_after s options answer
 behind s (Admitting batch answer) = admit_after s batch answer
 behind s (Writing held step) = write_after s step
+behind s (Resuming drafts held step) = resume_after s drafts step
 behind s (TakingOutcome ticket outcome) = without_outcome ticket s
 behind s (Getting key got) = s
 behind s (Scanning from to scanned) = s

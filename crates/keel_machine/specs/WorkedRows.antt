@@ -1,5 +1,5 @@
 -- Runs of which every call is answered Ok, worked out.
-use Rattle.std.specs.Prelude.{◌≡◌, ℕ, zero, suc, true, false, List, [], ◌∷◌, length, Option, Some, None}
+use Rattle.std.specs.Prelude.{◌≡◌, ℕ, ◌+◌, zero, suc, true, false, List, [], ◌∷◌, length, Option, Some, None}
 use Rattle.keel_base.specs.declared.failure.Call.TheVariants as call
 use Rattle.keel_base.specs.declared.op.Batch.{Batch}
 use Rattle.keel_base.specs.declared.op.Op.TheVariants as op
@@ -8,9 +8,15 @@ use Rattle.keel_machine.specs.declared.steps.WriteStep.{WriteStep}
 use Rattle.keel_machine.specs.declared.steps.WriteStep.TheVariants.{Idle, Moved, Done}
 use Rattle.keel_machine.specs.declared.answers.Admit.TheVariants.{QueueFull}
 use Rattle.keel_machine.specs.Admission.{queued, last_seq, outcome_of, refusal}
-use Rattle.keel_reading.specs.declared.replay.FoundLogs.{FoundLogs}
-use Rattle.keel_machine.specs.Opening.{opened}
-use Rattle.keel_machine.specs.States.{State, Group, Act, left_of, unopened}
+use Rattle.keel_machine.specs.declared.answers.Admit.TheVariants as admit
+use Rattle.keel_machine.specs.declared.steps.ResumeStep.{ResumeStep}
+use Rattle.keel_machine.specs.declared.steps.ResumeStep.TheVariants as resume
+use Rattle.keel_machine.specs.Resuming.{resume_ready, resume_rest, boot_done}
+use Rattle.keel_machine.specs.States.{State, Booting, Nothing, Group, Resumption, Act, left_of, new_story, no_batches}
+use Rattle.keel_base.specs.Options.{standard}
+use Rattle.keel_base.specs.Points.{origin}
+use Rattle.keel_resume.specs.Plans.{Act as BootAct}
+use Rattle.keel_resume.specs.Plans as plans
 use Rattle.keel_machine.specs.Writing.{ready, write_rest, call_of}
 use Rattle.keel_machine.specs.WritingAfter.{call_done}
 
@@ -40,29 +46,80 @@ abbrev pub behind_steps : ℕ → State → State
 behind_steps zero s = s
 behind_steps (suc n) s = behind_steps n (write_played s).1
 
--- what an opening finds in an empty directory
-abbrev pub nothing_found : FoundLogs
-nothing_found = record { batches = []; last_seq = 0; next_file = 1 }
-
--- a store that was opened there, as the first of a run
-abbrev pub new_store : State → State
-new_store s = opened nothing_found (record s { mode = unopened })
-
 -- the synced put of one byte to one byte
 abbrev pub synced_put : ℕ → ℕ → Batch
 synced_put key value = record { ops = op.Put (key ∷ []) (value ∷ []) ∷ []; sync = true }
 
--- The first put makes its log, makes the name firm, appends and syncs; then it is done, with sequence number 1.
+-- ---- a boot
+
+abbrev pub boot_answer : State → Resumption → List BootAct → ResumeStep
+boot_answer s running [] = resume.Idle
+boot_answer s running (act ∷ []) = resume.Cleared (resume_ready [] s).jobs.resume.number (running.steps + 1)
+boot_answer s running (act ∷ next ∷ later) = resume.Moved (resume_ready [] s).jobs.resume.number (plans.call_of act)
+
+abbrev pub boot_answer_of : State → Option Resumption → ResumeStep
+boot_answer_of s None = resume.Idle
+boot_answer_of s (Some running) = boot_answer s running (plans.left_of running.job)
+
+abbrev pub boot_out : State → Option ResumeStep → ResumeStep × State
+boot_out s (Some rest) = (rest, s)
+boot_out s None = (boot_answer_of s (resume_ready [] s).jobs.resume.running, boot_done (resume_ready [] s).jobs.resume.running (resume_ready [] s))
+
+-- a resume step whose call is answered Ok, with the state behind it; the boot has no table to make
+abbrev pub boot_played : State → ResumeStep × State
+boot_played s = boot_out s (resume_rest s [] None)
+
+abbrev pub boot_answers : ℕ → State → List ResumeStep
+boot_answers zero s = []
+boot_answers (suc n) s = (boot_played s).0 ∷ boot_answers n (boot_played s).1
+
+abbrev pub behind_boot_steps : ℕ → State → State
+behind_boot_steps zero s = s
+behind_boot_steps (suc n) s = behind_boot_steps n (boot_played s).1
+
+-- a store in an empty directory that was just opened, as the first of a run
+abbrev pub new_store : State → State
+new_store s = record {
+  device = s.device;
+  footing = s.footing;
+  options = standard;
+  mode = record { phase = Booting; left = Nothing };
+  story = new_story origin;
+  segments = record { immutable = []; active = no_batches };
+  levels = [];
+  writing = record { waiting = []; outcomes = []; last_ticket = 0 };
+  failing = record { failures = [] };
+  jobs = record { write = record { number = 0; running = None }; resume = record { number = 0; running = None } };
+  numbers = record { next_file = 1; manifest = None; in_tables = 0 };
+}
+
+-- The boot of an empty directory makes a log, a manifest and the file that CURRENT becomes; until its last call no batch is taken.
+abbrev pub FirstBoot : Type 0
+FirstBoot =
+    (s : State) → let s1 : State = new_store s in
+    (refusal s1 (synced_put 97 49) ≡ Some admit.Booting)
+    × (boot_answers 11 s1 ≡
+    resume.Moved 1 call.Create ∷ resume.Moved 1 call.SyncDir ∷ resume.Moved 1 call.Create ∷ resume.Moved 1 call.Append ∷ resume.Moved 1 call.Sync
+    ∷ resume.Moved 1 call.Create ∷ resume.Moved 1 call.Append ∷ resume.Moved 1 call.Sync ∷ resume.Moved 1 call.Rename ∷ resume.Cleared 1 10
+    ∷ resume.Idle ∷ [])
+
+-- that store, whose boot has cleared
+abbrev pub booted_store : State → State
+booted_store s = behind_boot_steps 10 (new_store s)
+
+-- ---- puts
+
+-- The first put appends and syncs; then it is done, with sequence number 1.
 abbrev pub FirstPut : Type 0
 FirstPut =
-    (s : State) → let s1 : State = queued (synced_put 97 49) (new_store s) in
-    (answers 5 s1 ≡ Moved 1 call.Create ∷ Moved 1 call.SyncDir ∷ Moved 1 call.Append ∷ Done 1 1 1 ∷ Idle ∷ [])
-    × (outcome_of (behind_steps 4 s1) 1 ≡ outcome.Done 1)
+    (s : State) → let s1 : State = queued (synced_put 97 49) (booted_store s) in
+    (answers 3 s1 ≡ Moved 1 call.Append ∷ Done 1 1 1 ∷ Idle ∷ [])
+    × (outcome_of (behind_steps 2 s1) 1 ≡ outcome.Done 1)
 
 -- A second put goes to the same log.
 abbrev pub SecondPut : Type 0
 SecondPut =
-    (s : State) → let s1 : State = queued (synced_put 98 50) (behind_steps 4 (queued (synced_put 97 49) (new_store s))) in
+    (s : State) → let s1 : State = queued (synced_put 98 50) (behind_steps 2 (queued (synced_put 97 49) (booted_store s))) in
     answers 3 s1 ≡ Moved 2 call.Append ∷ Done 2 2 1 ∷ Idle ∷ []
 
 -- so many batches are queued, one like another
@@ -77,7 +134,16 @@ plain_put = record { ops = op.Put (97 ∷ []) (49 ∷ []) ∷ []; sync = false }
 -- Of 65 puts at once the last is turned away, and the others are one group, whose last call is its append.
 abbrev pub FullQueue : Type 0
 FullQueue =
-    (s : State) → let s1 : State = queued_times 64 plain_put (new_store s) in
+    (s : State) → let s1 : State = queued_times 64 plain_put (booted_store s) in
     (refusal s1 plain_put ≡ Some (QueueFull 64))
-    × (answers 4 s1 ≡ Moved 1 call.Create ∷ Moved 1 call.SyncDir ∷ Done 1 64 64 ∷ Idle ∷ [])
-    × (outcome_of (behind_steps 3 s1) 2 ≡ outcome.Done 2)
+    × (answers 2 s1 ≡ Done 1 64 64 ∷ Idle ∷ [])
+    × (outcome_of (behind_steps 1 s1) 2 ≡ outcome.Done 2)
+
+-- A segment that is full is left before the next group's append: its log is made firm, and another one with a firm name.
+abbrev pub FullSegment : Type 0
+FullSegment =
+    (s : State) → let s0 : State = booted_store s in
+    let s1 : State = behind_steps 1 (queued plain_put (record s0 { options = record standard { write_buffer = 18; max_immutables = 1 } })) in
+    let s2 : State = behind_steps 4 (queued plain_put s1) in
+    (answers 5 (queued plain_put s1) ≡ Moved 2 call.Sync ∷ Moved 2 call.Create ∷ Moved 2 call.SyncDir ∷ Done 2 2 1 ∷ Idle ∷ [])
+    × (refusal s2 plain_put ≡ Some (admit.Full 18 1))

@@ -1,5 +1,5 @@
 -- The write step: when it rests, and the call that it makes.
-use Rattle.std.specs.Prelude.{ℕ, ◌+◌, ◌==◌, nat_le, not, ◌&&◌, Bool, true, false, List, [], ◌∷◌, ◌++◌, length, take, drop, Option, Some, None, if◌then◌else◌, option_map, unwrap_or, is_some}
+use Rattle.std.specs.Prelude.{ℕ, ◌+◌, ◌==◌, nat_le, ◌&&◌, Bool, true, false, List, [], ◌∷◌, ◌++◌, length, take, drop, Option, Some, None, if◌then◌else◌, option_map, unwrap_or}
 use Rattle.keel_base.specs.declared.limits.TheConstants.{LAST_NUMBER}
 use Rattle.keel_base.specs.declared.failure.Call.{Call}
 use Rattle.keel_base.specs.declared.failure.Call.TheVariants as call
@@ -13,17 +13,17 @@ use Rattle.keel_frag.specs.Writing.{records_bytes}
 use Rattle.keel_group.specs.Queue.{Ticketed, tickets_of}
 use Rattle.keel_group.specs.Forming.{next_size, next_batches, wants_sync}
 use Rattle.keel_machine.specs.declared.steps.WriteStep.{WriteStep}
-use Rattle.keel_machine.specs.declared.steps.WriteStep.TheVariants.{Idle, Turned, Spent, Cancelled}
-use Rattle.keel_machine.specs.Admission.{stopping, last_seq, ops_of}
-use Rattle.keel_machine.specs.States.{State, SegmentLog, Progress, Group, Act, MakeLog, SyncDirectory, AddRecords, SyncLog, left_of, active_log}
+use Rattle.keel_machine.specs.declared.steps.WriteStep.TheVariants.{Idle, Turned, Full, Spent, Cancelled}
+use Rattle.keel_machine.specs.Admission.{stopping, last_seq, ops_of, is_full, is_store_full, active_weight}
+use Rattle.keel_machine.specs.States.{State, SegmentLog, Progress, Group, Act, CloseLog, MakeLog, SyncDirectory, AddRecords, SyncLog, left_of, active_log}
 use Rattle.keel_machine.specs.Tests.{first_some, when, differing}
 
 -- ---- groups
 
--- The calls of a group: without a log of its own the store first makes one, and its name firm.
+-- The calls of a group: behind a full segment its log is first made firm, and another one with a firm name.
 abbrev pub group_plan : Bool → Bool → List Act
-group_plan has_log sync =
-    (if has_log then [] else MakeLog ∷ SyncDirectory ∷ []) ++ AddRecords ∷ (if sync then SyncLog ∷ [] else [])
+group_plan switches sync =
+    (if switches then CloseLog ∷ MakeLog ∷ SyncDirectory ∷ [] else []) ++ AddRecords ∷ (if sync then SyncLog ∷ [] else [])
 
 abbrev pub nothing_made : Progress
 nothing_made = record { made = 0; log = None }
@@ -33,7 +33,7 @@ abbrev pub formed : List Ticketed → State → Group
 formed waiting s = record {
   tickets = take (next_size waiting) (tickets_of waiting);
   batches = next_batches waiting;
-  plan = group_plan (is_some (active_log s)) (wants_sync (next_batches waiting));
+  plan = group_plan (is_full s) (wants_sync (next_batches waiting));
   progress = nothing_made;
 }
 
@@ -41,7 +41,7 @@ formed waiting s = record {
 abbrev pub started : List Ticketed → State → State
 started [] s = s
 started (first ∷ rest) s = record s {
-  jobs = record { write = record { number = s.jobs.write.number + 1; running = Some (formed (first ∷ rest) s) } };
+  jobs = record s.jobs { write = record { number = s.jobs.write.number + 1; running = Some (formed (first ∷ rest) s) } };
   writing = record s.writing { waiting = drop (next_size (first ∷ rest)) (first ∷ rest) };
 }
 
@@ -72,8 +72,9 @@ abbrev pub rests_before_group : State → List (Option WriteStep)
 rests_before_group s =
     when (is_nobody_waiting s) Idle
     ∷ option_map (turned_away s) (stopping s)
+    ∷ when (is_store_full s) (Full (active_weight s) (length s.segments.immutable))
     ∷ when (is_job_spent s) (Spent JobNumber)
-    ∷ when (not (is_some (active_log s)) && is_file_spent s) (Spent FileNumber)
+    ∷ when (is_full s && is_file_spent s) (Spent FileNumber)
     ∷ []
 
 -- the next call draws a file's number
@@ -99,6 +100,7 @@ write_rest s held = first_some (
 -- ---- calls
 
 abbrev pub call_of : Act → Call
+call_of CloseLog = call.Sync
 call_of MakeLog = call.Create
 call_of SyncDirectory = call.SyncDir
 call_of AddRecords = call.Append
@@ -115,6 +117,7 @@ abbrev pub group_bytes : State → Group → List ℕ
 group_bytes s group = records_bytes (log_size s) (payloads_behind (last_seq s) (ops_of group.batches))
 
 abbrev pub change_of : State → Group → Act → Change
+change_of s group CloseLog = change.Sync (Log (log_number s))
 change_of s group MakeLog = change.Create (Log s.numbers.next_file)
 change_of s group SyncDirectory = change.SyncDir
 change_of s group AddRecords = change.Append (Log (log_number s)) (group_bytes s group)

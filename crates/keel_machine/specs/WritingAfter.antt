@@ -12,7 +12,7 @@ use Rattle.keel_machine.specs.declared.steps.WriteStep.{WriteStep}
 use Rattle.keel_machine.specs.declared.steps.WriteStep.TheVariants.{Moved, Done, Failed, Turned, OutOfMemory}
 use Rattle.keel_machine.specs.Admission.{ops_of, last_seq}
 use Rattle.keel_machine.specs.Outside.{as_answer}
-use Rattle.keel_machine.specs.States.{State, SegmentLog, Segment, Group, Act, MakeLog, SyncDirectory, AddRecords, SyncLog, handed, published, new_log, left_of}
+use Rattle.keel_machine.specs.States.{State, SegmentLog, Group, Act, CloseLog, MakeLog, SyncDirectory, AddRecords, SyncLog, handed, published, new_log, left_of}
 use Rattle.keel_machine.specs.Writing.{ready, write_rest, call_of, change_of, group_bytes}
 
 -- ---- parts of the next state
@@ -22,14 +22,11 @@ abbrev pub settled : List ℕ → Outcome → State → State
 settled tickets outcome s = record s { writing = record s.writing { outcomes = s.writing.outcomes ++ map (λ ticket. (ticket, outcome)) tickets } }
 
 abbrev pub with_group : Option Group → State → State
-with_group running s = record s { jobs = record { write = record s.jobs.write { running = running } } }
+with_group running s = record s { jobs = record s.jobs { write = record s.jobs.write { running = running } } }
 
--- the active segment with this in place of what it had
-abbrev pub with_active : Segment → State → State
-with_active active s = record s { segments = record s.segments { active = active } }
-
-abbrev pub with_logs : List SegmentLog → State → State
-with_logs logs s = with_active (record s.segments.active { logs = logs }) s
+-- the active segment with this log
+abbrev pub with_log : Option SegmentLog → State → State
+with_log log s = record s { segments = record s.segments { active = record s.segments.active { log = log } } }
 
 -- the sequence behind the first of these batches, where there is one
 abbrev pub seq_behind : ℕ → List (List Op) → ℕ
@@ -60,22 +57,31 @@ goes_on sync group [] s = all_published sync group s
 goes_on sync group (act ∷ later) s = with_group (Some (one_more group)) s
 
 abbrev pub file_drawn : State → State
-file_drawn s = record s { numbers = record { next_file = s.numbers.next_file + 1 } }
+file_drawn s = record s { numbers = record s.numbers { next_file = s.numbers.next_file + 1 } }
 
--- a segment's newest log is longer by so many bytes
-abbrev pub log_longer : ℕ → List SegmentLog → List SegmentLog
-log_longer more [] = []
-log_longer more (log ∷ logs) = record log { size = log.size + more } ∷ logs
+-- the active segment's log is longer by so many bytes
+abbrev pub log_longer : ℕ → Option SegmentLog → Option SegmentLog
+log_longer more None = None
+log_longer more (Some log) = Some (record log { size = log.size + more })
 
 -- a call on it failed
-abbrev pub log_failed : List SegmentLog → List SegmentLog
-log_failed [] = []
-log_failed (log ∷ logs) = record log { failed = true } ∷ logs
+abbrev pub log_failed : Option SegmentLog → Option SegmentLog
+log_failed None = None
+log_failed (Some log) = Some (record log { failed = true })
 
--- the log that the group made is the active segment's
-abbrev pub logs_made : Option ℕ → List SegmentLog
-logs_made None = []
-logs_made (Some number) = new_log number ∷ []
+abbrev pub numbers_of : Option SegmentLog → List ℕ
+numbers_of None = []
+numbers_of (Some log) = log.number ∷ []
+
+-- the full segment is immutable, and another one is active, with the log that the group made
+abbrev pub switched : Option ℕ → State → State
+switched None s = s
+switched (Some number) s = record s {
+  segments = record {
+    immutable = s.segments.immutable ++ (record { batches = s.segments.active.batches; logs = numbers_of s.segments.active.log }) ∷ [];
+    active = record { batches = []; log = Some (new_log number) };
+  };
+}
 
 abbrev pub with_made : Option ℕ → Group → Group
 with_made log group = record group { progress = record group.progress { log = log } }
@@ -85,20 +91,22 @@ batches_handed group s = record s { story = handed (ops_of group.batches) s.stor
 
 -- the state behind a call of the group that was answered Ok, with the calls left behind it
 abbrev pub act_done : Act → Group → List Act → State → State
+act_done CloseLog group later s = goes_on false group later s
 act_done MakeLog group later s = goes_on false (with_made (Some s.numbers.next_file) group) later (file_drawn s)
-act_done SyncDirectory group later s = goes_on false (with_made None group) later (with_logs (logs_made group.progress.log) s)
+act_done SyncDirectory group later s = goes_on false (with_made None group) later (switched group.progress.log s)
 act_done AddRecords group later s =
     goes_on false (record group { batches = [] }) later
-    (batches_handed group (with_logs (log_longer (length (group_bytes s group)) s.segments.active.logs) s))
+    (batches_handed group (with_log (log_longer (length (group_bytes s group)) s.segments.active.log) s))
 act_done SyncLog group later s = goes_on true group later s
 
 -- What a call leaves of the state though it failed: a number is used up, batches may be found in the log, nothing more
 -- is written to the log.
 abbrev pub act_tried : Act → Group → State → State
+act_tried CloseLog group s = with_log (log_failed s.segments.active.log) s
 act_tried MakeLog group s = file_drawn s
 act_tried SyncDirectory group s = s
-act_tried AddRecords group s = batches_handed group (with_logs (log_failed s.segments.active.logs) s)
-act_tried SyncLog group s = with_logs (log_failed s.segments.active.logs) s
+act_tried AddRecords group s = batches_handed group (with_log (log_failed s.segments.active.log) s)
+act_tried SyncLog group s = with_log (log_failed s.segments.active.log) s
 
 abbrev pub failure_of : Fault → Failure
 failure_of fault = record { reason = Wal; fault = fault }

@@ -1,5 +1,6 @@
 // The answers of the calls that aren't steps.
 use keel_base::{Bytes, Counter, Failure, Rows};
+use keel_table::TableFault;
 
 /// Whether a batch is taken in. Only a queued batch changes anything.
 #[derive(Clone, Copy, Debug)]
@@ -8,10 +9,14 @@ pub enum Admit {
     Queued { ticket: u64 },
     /// This part of the batch has a length, a count or a weight outside the limits.
     BadSize { part: Part, length: u64 },
+    /// The boot of this opening hasn't cleared.
+    Booting,
     /// This failure stands, and nothing is written any more.
     Stopped(Failure),
     /// This counter would pass its end.
     Spent(Counter),
+    /// The active segment is full, and as many others as may be are: it weighs so many bytes, and the others are so many.
+    Full { active: u64, immutables: u32 },
     /// So many batches wait already.
     QueueFull { waiting: u32 },
     OutOfMemory,
@@ -48,6 +53,8 @@ pub enum Outcome {
 pub enum Got {
     Value(Bytes),
     Absent,
+    /// The table of this number wasn't read.
+    ReadFault { number: u64, fault: TableFault },
     OutOfMemory,
 }
 
@@ -56,5 +63,7 @@ pub enum Got {
 pub enum Scanned {
     /// The puts that count, by key.
     Rows(Rows),
+    /// The table of this number wasn't read.
+    ReadFault { number: u64, fault: TableFault },
     OutOfMemory,
 }

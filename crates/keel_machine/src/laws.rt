@@ -1,6 +1,7 @@
 // Facts of the machine, each as the contract of a function.
+ghost use Rattle.keel_machine.specs.BootLength.{BootEnds};
 ghost use Rattle.keel_machine.specs.Laws.{FailureStops, FullQueueStops, LogFailureStops, OneCallAStep};
-ghost use Rattle.keel_machine.specs.WorkedRows.{FirstPut, FullQueue, SecondPut};
+ghost use Rattle.keel_machine.specs.WorkedRows.{FirstBoot, FirstPut, FullQueue, FullSegment, SecondPut};
 
 /// A write step makes one changing call of the device at most.
 pub fn one_call_a_step()
@@ -22,6 +23,17 @@ pub fn full_queue_stops()
     ensures { FullQueueStops }
 {}
 
+/// A boot none of whose steps fails, rests or wants memory clears: with ten calls, and for each table that it makes three and
+/// one for each block.
+pub fn boot_ends()
+    ensures { BootEnds }
+{}
+
+/// The calls of the boot of an empty directory.
+pub fn first_boot()
+    ensures { FirstBoot }
+{}
+
 /// The calls of the first put.
 pub fn first_put()
     ensures { FirstPut }
@@ -35,4 +47,9 @@ pub fn second_put()
 /// The calls of a full queue, which is one group.
 pub fn full_queue()
     ensures { FullQueue }
+{}
+
+/// The calls of a put behind a full segment, and that the store is full then.
+pub fn full_segment()
+    ensures { FullSegment }
 {}

@@ -13,7 +13,7 @@ pub mod laws;
 mod steps;
 
 pub use answers::{Admit, Got, Outcome, Part, Scanned};
-pub use steps::WriteStep;
+pub use steps::{ResumeStep, WriteStep};
 
 #[cfg(test)]
 mod tests;

@@ -14,9 +14,29 @@ pub enum WriteStep {
     Failed(Failure),
     /// So many batches that waited are turned away, since this failure stands.
     Turned { batches: u32, failure: Failure },
+    /// The active segment is full, and as many others as may be are: it weighs so many bytes, and the others are so many.
+    Full { active: u64, immutables: u32 },
     /// The group would draw a number past its end.
     Spent(Counter),
     /// The caller holds another number than the group that is or was last in flight.
+    Cancelled { job: u64, current: u64 },
+    OutOfMemory,
+}
+
+/// What a resume step did.
+#[derive(Clone, Copy, Debug)]
+pub enum ResumeStep {
+    /// No boot is under way, and none is to begin.
+    Idle,
+    /// The boot of this number made this call, and has others before it.
+    Moved { job: u64, call: Call },
+    /// The boot made its last call, with so many steps in all: writes are taken from now on.
+    Cleared { job: u64, steps: u64 },
+    /// The boot's call failed, and the boot is over.
+    Failed(Failure),
+    /// The boot would draw a number past its end.
+    Spent(Counter),
+    /// The caller holds another number than the boot that is or was last under way.
     Cancelled { job: u64, current: u64 },
     OutOfMemory,
 }

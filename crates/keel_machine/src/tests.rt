@@ -6,7 +6,10 @@ fn the_laws_hold() {
     laws::failure_stops();
     laws::log_failure_stops();
     laws::full_queue_stops();
+    laws::boot_ends();
+    laws::first_boot();
     laws::first_put();
     laws::second_put();
     laws::full_queue();
+    laws::full_segment();
 }

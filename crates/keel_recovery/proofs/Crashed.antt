@@ -13,7 +13,7 @@ use Rattle.keel_disk.proofs.Resting.{crash_rests}
 use Rattle.keel_machine.specs.States.{Story, cut_story}
 use Rattle.keel_recovery.specs.Crashing.{LeavesPrefix}
 use Rattle.keel_recovery.specs.Standing.{ReadsIn, Stands}
-use Rattle.keel_recovery.proofs.Opened.{rest_stands}
+use Rattle.keel_recovery.proofs.Resting.{rest_stands}
 
 read_behind : (front : List File) (image : Named (List ℕ)) (files : List File) → files ≡ front ++ image_files image → bytes_read files (image_names (length front) image) ≡ image
 read_behind front [] files e = refl

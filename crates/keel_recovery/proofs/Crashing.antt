@@ -12,13 +12,15 @@ use Rattle.keel_disk.specs.Told.{Told, Crashes, CrashedTo}
 use Rattle.keel_disk.specs.declared.rule.Pick.{Pick}
 use Rattle.keel_disk.specs.Seen.{Seen}
 use Rattle.keel_machine.specs.Crash.{has_story, LeavesPlain, IsPrefix, LeavesOf, Leaves, CrashAnswers, mode_crashed, crash_after}
-use Rattle.keel_machine.specs.States.{State, Footing, Known, Unknown, Nothing, Crashed, is_open, is_left, Story, cut_story, point_of, with_device}
-use Rattle.keel_reading.specs.Reading.{Reads}
-use Rattle.keel_recovery.specs.Machine.{IsLeft, KeptBy, IsCoveredBy, IsCovered, CrashTurns}
+use Rattle.keel_machine.specs.States.{State, Footing, Known, Unknown, Phase, Shut, Booting, Open, Nothing, Crashed, is_open, is_left, Story, cut_story, point_of, with_device}
+use Rattle.keel_directory.specs.Standing.{ReadsAs}
+use Rattle.keel_recovery.specs.Machine.{IsFirst, IsLeft, KeptBy, IsCoveredBy, IsCovered, CrashTurns}
 use Rattle.keel_recovery.specs.Standing.{ReadsIn, Stands}
-use Rattle.keel_recovery.proofs.Kept.{kept_stands}
-use Rattle.keel_recovery.proofs.Crashed.{reading_leaves}
-use Rattle.keel_recovery.proofs.Opened.{rest_stands}
+use Rattle.keel_recovery.proofs.Kept.{kept_stands, booting_store_stands}
+use Rattle.keel_disk.proofs.Resting.{rest_has_one}
+use Rattle.keel_directory.specs.Reading.{IsReading}
+use Rattle.keel_recovery.proofs.Crashed.{reading_leaves, read_restarted}
+use Rattle.keel_recovery.proofs.Resting.{rest_stands}
 use Rattle.keel_recovery.proofs.Restarted.{rests_behind}
 
 -- ---- what a crash leaves is kept
@@ -44,13 +46,24 @@ prefix_left state count story rest is =
 plain_rests : (before after : Told) → IsOneToOne before.state → LeavesPlain before after → IsAtRest after.state
 plain_rests before after one left = subst IsAtRest (sym left.leaves) (rests_behind before.state left.image one (left.plain.0, left.plain.1.0))
 
+-- a device at rest is found again as it was
+first_again : (before after : Told) → IsFirst before.state → LeavesPlain before after → IsFirst after.state
+first_again before after first left =
+    let same : image_read after.state ≡ image_read before.state =
+    ap image_read left.leaves ∙ read_restarted left.image ∙ rest_has_one before.state first.at_rest left.image (left.plain.0, left.plain.1.0) in
+    record {
+      at_rest = plain_rests before after first.at_rest.sound.one_to_one left;
+      sound = λ reading is. first.sound reading (subst (λ (image : Named (List ℕ)). IsReading image reading) same is);
+    }
+
 -- what is kept of an open store, of one that was left, and where there is no story
-crash_kept : (opens left : Bool) (count : ℕ) (s : State) (before after : Told) (device : Seen) → LeavesPlain before after → LeavesOf (opens || left) count s.story (image_read after.state)
-    → KeptBy opens left before.state s
-    → KeptBy false (is_left (if opens || left then Crashed else Nothing)) after.state (with_device device (crash_after s (Some count)))
-crash_kept false false count s before after device plain of h = plain_rests before after h.sound.one_to_one plain
-crash_kept false true count s before after device plain of h = prefix_left after.state count s.story (plain_rests before after h.at_rest.sound.one_to_one plain) of
-crash_kept true left count s before after device plain of h = prefix_left after.state count s.story (plain_rests before after h.one_to_one plain) of
+crash_kept : (phase : Phase) (left : Bool) (count : ℕ) (s : State) (before after : Told) (device : Seen) → LeavesPlain before after → LeavesOf (is_open phase || left) count s.story (image_read after.state)
+    → KeptBy phase left before.state s
+    → KeptBy Shut (is_left (if is_open phase || left then Crashed else Nothing)) after.state (with_device device (crash_after s (Some count)))
+crash_kept Shut false count s before after device plain of h = first_again before after h plain
+crash_kept Shut true count s before after device plain of h = prefix_left after.state count s.story (plain_rests before after h.at_rest.sound.one_to_one plain) of
+crash_kept Booting left count s before after device plain of h = prefix_left after.state count s.story (plain_rests before after h.one_to_one plain) of
+crash_kept Open left count s before after device plain of h = prefix_left after.state count s.story (plain_rests before after h.one_to_one plain) of
 
 crash_by : (f : Footing) (before after : Option Told) (kept : Option ℕ) (s : State) (device : Seen) → f ≡ s.footing → Leaves f s.mode s.story before kept after
     → IsCoveredBy f s.mode before s
@@ -58,7 +71,7 @@ crash_by : (f : Footing) (before after : Option Told) (kept : Option ℕ) (s : S
 crash_by f before after None s device footing left h = tt
 crash_by Known (Some before) (Some after) (Some count) s device footing left h =
     subst (λ (g : Footing). IsCoveredBy g (mode_crashed s.mode) (Some after) (with_device device (crash_after s (Some count)))) footing
-    (crash_kept (is_open s.mode.phase) (is_left s.mode.left) count s before after device left.0 left.1 h)
+    (crash_kept s.mode.phase (is_left s.mode.left) count s before after device left.0 left.1 h)
 crash_by Known None (Some after) (Some count) s device footing left h = absurd left
 crash_by Known None None (Some count) s device footing left h = absurd left
 crash_by Known (Some before) None (Some count) s device footing left h = absurd left
@@ -80,20 +93,21 @@ stands_prefix before story image one stands plain =
     let all : cut.log ++ [] ≡ cut.log = append-nil cut.log in
     let whole : take at.count (cut.log ++ []) ≡ cut.log = ap (take at.count) all ∙ take_all at.count cut.log at.enough in
     let point : now.0 ≡ point_of cut = at.point_is ∙ ap (fold_batches story.start) whole in
-    (left.count, record { not_lost = left.not_lost; within = left.within; reads = subst (Reads (image_read (restarted image))) point now.1 })
+    (left.count, record { not_lost = left.not_lost; within = left.within; reads = subst (ReadsAs (image_read (restarted image))) point now.1 })
 
-left_of : (opens left : Bool) (s : State) (before : Told) (image : Named (List ℕ)) → KeptBy opens left before.state s → PlainImage before.state image
-    → (count : ℕ) × LeavesOf (opens || left) count s.story (image_read (restarted image))
-left_of false false s before image h plain = (0, tt)
-left_of false true s before image h plain = stands_prefix before.state s.story image h.at_rest.sound.one_to_one h.stands plain
-left_of true left s before image h plain = stands_prefix before.state s.story image h.one_to_one (kept_stands before.state s h) plain
+left_of : (phase : Phase) (left : Bool) (s : State) (before : Told) (image : Named (List ℕ)) → KeptBy phase left before.state s → PlainImage before.state image
+    → (count : ℕ) × LeavesOf (is_open phase || left) count s.story (image_read (restarted image))
+left_of Shut false s before image h plain = (0, tt)
+left_of Shut true s before image h plain = stands_prefix before.state s.story image h.at_rest.sound.one_to_one h.stands plain
+left_of Booting left s before image h plain = stands_prefix before.state s.story image h.one_to_one (booting_store_stands before.state s h) plain
+left_of Open left s before image h plain = stands_prefix before.state s.story image h.one_to_one (kept_stands before.state s h) plain
 
-known_left : (s : State) (before after : Told) → KeptBy (is_open s.mode.phase) (is_left s.mode.left) before.state s → CrashedTo before after
+known_left : (s : State) (before after : Told) → KeptBy s.mode.phase (is_left s.mode.left) before.state s → CrashedTo before after
     → (kept : Option ℕ) × Leaves Known s.mode s.story (Some before) kept (Some after)
 known_left s before after h crashed = ⊎_elim
     (λ plain.
     let image : PlainImage before.state crashed.image = (crashed.count, (crashed.is_image, plain.0)) in
-    let left = left_of (is_open s.mode.phase) (is_left s.mode.left) s before crashed.image h image in (
+    let left = left_of s.mode.phase (is_left s.mode.left) s before crashed.image h image in (
       Some left.0,
       (
         record { image = crashed.image; plain = image; leaves = crashed.leaves; last = crashed.last_same; forged = plain.1 },

@@ -7,13 +7,13 @@ use Rattle.keel_base.specs.declared.op.Op.{Op}
 use Rattle.keel_batch.specs.Batches.{AreBatches}
 use Rattle.keel_disk.specs.State.{State}
 use Rattle.keel_disk.proofs.Owning.{either_false}
-use Rattle.keel_machine.specs.Admission.{count_ops}
+use Rattle.keel_resume.specs.Drafts.{count_ops}
 use Rattle.keel_machine.specs.States.{Story, handed, published}
 use Rattle.keel_recovery.specs.Calls.{point_handed, grown}
-use Rattle.keel_recovery.specs.Chains.{Chained, batches_of, FollowOn, is_chained, AreChained, OthersEmpty}
-use Rattle.keel_recovery.specs.Keeping.{IsBase, point_at, HoldStory}
-use Rattle.keel_recovery.proofs.Numbering.{folded_append, seq_folded, batches_append}
-use Rattle.keel_recovery.proofs.Parting.{counted_append}
+use Rattle.keel_recovery.specs.Chains.{Chained, batches_of, FollowOn, is_chained, AreChained}
+use Rattle.keel_recovery.specs.Keeping.{HoldStory}
+use Rattle.keel_recovery.specs.Roots.{point_at}
+use Rattle.keel_recovery.proofs.Numbering.{folded_append, seq_folded, batches_append, counted_append}
 
 -- ---- batches of a chain
 
@@ -78,9 +78,9 @@ pub record IsLast (story : Story) (log : Chained) : Type 0 where
   pub ends : log.before + length log.batches ≡ length (story.log ++ story.limbo)
   pub seq : log.last + count_ops log.batches ≡ (point_handed story).seq
 
-pub at_end : (place least : ℕ) (logs : List Chained) (story : Story) (state : State) → HoldStory place least logs story state
+pub at_end : (place : ℕ) (logs : List Chained) (story : Story) (state : State) → HoldStory place logs story state
     → (place + length (batches_of logs) ≡ length (story.log ++ story.limbo)) × ((point_at place story).seq + count_ops (batches_of logs) ≡ (point_handed story).seq)
-at_end place least logs story state h =
+at_end place logs story state h =
     let all = story.log ++ story.limbo in
     let parts : all ≡ take place all ++ batches_of logs = sym (take-append-drop place all) ∙ ap (λ (l : List (List Op)). take place all ++ l) h.batches_are in
     let point : point_handed story ≡ fold_batches (point_at place story) (batches_of logs) = ap (fold_batches story.start) parts ∙ folded_append story.start (take place all) (batches_of logs) in (
@@ -88,9 +88,9 @@ at_end place least logs story state h =
       sym (ap (λ (p : Point). p.seq) point ∙ seq_folded (point_at place story) (batches_of logs)),
     )
 
-pub last_ends : (place least : ℕ) (front : List Chained) (log : Chained) (story : Story) (state : State) → HoldStory place least (front ++ log ∷ []) story state → IsLast story log
-last_ends place least front log story state h =
-    let end = at_end place least (front ++ log ∷ []) story state h in
+pub last_ends : (place : ℕ) (front : List Chained) (log : Chained) (story : Story) (state : State) → HoldStory place (front ++ log ∷ []) story state → IsLast story log
+last_ends place front log story state h =
+    let end = at_end place (front ++ log ∷ []) story state h in
     let starts = follow_last place (point_at place story).seq front log h.in_turn in
     let all = batches_push front log in
     record {
@@ -109,10 +109,10 @@ same_all sync story = append-nil (story.log ++ story.limbo)
 
 -- ---- the story
 
-pub stored_handed : (place least : ℕ) (front : List Chained) (log : Chained) (story : Story) (batches : List (List Op)) (state after : State) → HoldStory place least (front ++ log ∷ []) story state
-    → AreBatches (point_handed story).seq batches → AreChained story.floor (length story.log) (front ++ grown batches log ∷ []) after → OthersEmpty least (front ++ grown batches log ∷ []) after
-    → HoldStory place least (front ++ grown batches log ∷ []) (handed batches story) after
-stored_handed place least front log story batches state after h limits chained others =
+pub stored_handed : (place : ℕ) (front : List Chained) (log : Chained) (story : Story) (batches : List (List Op)) (state after : State) → HoldStory place (front ++ log ∷ []) story state
+    → AreBatches (point_handed story).seq batches → AreChained story.floor (length story.log) (front ++ grown batches log ∷ []) after
+    → HoldStory place (front ++ grown batches log ∷ []) (handed batches story) after
+stored_handed place front log story batches state after h limits chained =
     let next = grown batches log in
     let all = story.log ++ story.limbo in
     let longer : batches_of (front ++ next ∷ []) ≡ batches_of (front ++ log ∷ []) ++ batches =
@@ -120,9 +120,8 @@ stored_handed place least front log story batches state after h limits chained o
     let point : point_at place (handed batches story) ≡ point_at place story = point_stays place story batches h.place_within in
     let whole : story.log ++ (story.limbo ++ batches) ≡ all ++ batches = sym (append_assoc story.log story.limbo batches) in
     let dropped : drop place (all ++ batches) ≡ drop place all ++ batches = drop-append-le place all batches (omega (arith, h.place_within, length-append story.log story.limbo)) in
-    let end = at_end place least (front ++ log ∷ []) story state h in
+    let end = at_end place (front ++ log ∷ []) story state h in
     record {
-      least_is = least_changed least front log next refl h.least_is;
       in_turn = subst (λ (p : Point). FollowOn place p.seq (front ++ next ∷ [])) (sym point) (follow_changed place (point_at place story).seq front log next refl refl h.in_turn);
       batches_are = ap (drop place) whole ∙ dropped ∙ ap (λ (l : List (List Op)). l ++ batches) h.batches_are ∙ sym longer;
       limits = subst (λ (p : Point). AreBatches p.seq (batches_of (front ++ next ∷ []))) (sym point)
@@ -131,30 +130,21 @@ stored_handed place least front log story batches state after h limits chained o
       place_within = h.place_within;
       floor_within = h.floor_within;
       chained = chained;
-      others = others;
     }
 
 pub floor_published : (sync : Bool) (story : Story) → story.floor ≤ length story.log → (published sync story).floor ≤ length (published sync story).log
 floor_published true story within = omega arith
 floor_published false story within = omega (arith, within, length-append story.log story.limbo)
 
-pub stored_published : (place least : ℕ) (logs : List Chained) (sync : Bool) (story : Story) (state after : State) → HoldStory place least logs story state
-    → AreChained (published sync story).floor (length (published sync story).log) logs after → OthersEmpty least logs after → HoldStory place least logs (published sync story) after
-stored_published place least logs sync story state after h chained others =
+pub stored_published : (place : ℕ) (logs : List Chained) (sync : Bool) (story : Story) (state after : State) → HoldStory place logs story state
+    → AreChained (published sync story).floor (length (published sync story).log) logs after → HoldStory place logs (published sync story) after
+stored_published place logs sync story state after h chained =
     let point : point_at place (published sync story) ≡ point_at place story = ap (λ (l : List (List Op)). fold_batches story.start (take place l)) (same_all sync story) in
     record {
-      least_is = h.least_is;
       in_turn = subst (λ (p : Point). FollowOn place p.seq logs) (sym point) h.in_turn;
       batches_are = ap (drop place) (same_all sync story) ∙ h.batches_are;
       limits = subst (λ (p : Point). AreBatches p.seq (batches_of logs)) (sym point) h.limits;
       place_within = omega (arith, h.place_within, length-append story.log story.limbo);
       floor_within = floor_published sync story h.floor_within;
       chained = chained;
-      others = others;
     }
-
-pub base_handed : (place least : ℕ) (story : Story) (batches : List (List Op)) (state : State) → place ≤ length story.log → IsBase least (point_at place story) state → IsBase least (point_at place (handed batches story)) state
-base_handed place least story batches state within h = subst (λ (p : Point). IsBase least p state) (sym (point_stays place story batches within)) h
-
-pub base_published : (place least : ℕ) (sync : Bool) (story : Story) (state : State) → IsBase least (point_at place story) state → IsBase least (point_at place (published sync story)) state
-base_published place least sync story state h = subst (λ (p : Point). IsBase least p state) (sym (ap (λ (l : List (List Op)). fold_batches story.start (take place l)) (same_all sync story))) h

@@ -15,12 +15,20 @@ use Rattle.keel_machine.specs.declared.steps.WriteStep.TheVariants as step
 use Rattle.keel_machine.specs.Admission.{admit_after}
 use Rattle.keel_machine.specs.Crash.{Leaves, CrashAnswers, crash_after}
 use Rattle.keel_machine.specs.Outside.{as_answer}
-use Rattle.keel_machine.specs.States.{State, Footing, Known, Unknown, Mode, Story, Group, Act, with_device}
-use Rattle.keel_machine.specs.Turns.{Event, Opening, Admitting, Writing, TakingOutcome, Getting, Scanning, Listing, Crashing, Finishing, Answers, after}
+use Rattle.keel_machine.specs.States.{State, Footing, Known, Unknown, Mode, Story, Resumption, Group, Act, with_device}
+use Rattle.keel_machine.specs.Turns.{Event, Opening, Admitting, Writing, Resuming, TakingOutcome, Getting, Scanning, Listing, Crashing, Finishing, Answers, after}
 use Rattle.keel_machine.specs.Writing.{ready, change_of}
 use Rattle.keel_machine.specs.WritingAfter.{WriteAnswers, MadeCall, call_done, call_failed, write_after}
 use Rattle.keel_recovery.specs.Machine.{forged_of, IsCounted, FootingStays}
-use Rattle.keel_recovery.proofs.Unchanged.{footing_started_or, footing_done, footing_failed}
+use Rattle.keel_machine.specs.declared.steps.ResumeStep.{ResumeStep}
+use Rattle.keel_machine.specs.declared.steps.ResumeStep.TheVariants as resume_step
+use Rattle.keel_machine.specs.Resuming as resuming
+use Rattle.keel_resume.specs.Drafts.{Draft}
+use Rattle.keel_resume.specs.Plans as plans
+use Rattle.keel_recovery.proofs.Machine.{got_quiet, scan_quiet}
+use Rattle.keel_recovery.proofs.ResumeCalls.{footing_ready, failed_is}
+use Rattle.keel_recovery.proofs.ResumeTurns.{footing_done}
+use Rattle.keel_recovery.proofs.Unchanged.{unmoved_ready, unmoved_done, unmoved_failed}
 
 -- ---- turns that count nothing
 
@@ -49,7 +57,7 @@ made_keeps first s next held group act later failed made footing h =
     stays first s next (call_keeps (change_of (ready s) group act) s.device.told failed next.device.told made.calls.step) footing h
 
 done_footing : (s : State) → (call_done s).footing ≡ s.footing
-done_footing s = footing_done (ready s).jobs.write.running (ready s) ∙ footing_started_or s.jobs.write.running s
+done_footing s = (unmoved_done (ready s).jobs.write.running (ready s)).footing ∙ (unmoved_ready s.jobs.write.running s).footing
 
 write_keeps : (first : ℕ) (s : State) (held : Option ℕ) (answer : WriteStep) (device : Seen) → WriteAnswers s held answer device → IsCounted first s → IsCounted first (with_device device (write_after s answer))
 write_keeps first s held (step.Moved job call) device a h =
@@ -58,12 +66,34 @@ write_keeps first s held (step.Done job seq batches) device a h =
     made_keeps first s (with_device device (call_done s)) held a.group a.act [] None a.made (done_footing s) h
 write_keeps first s held (step.Failed failure) device a h =
     made_keeps first s (with_device device (call_failed failure s)) held a.group a.act a.later (Some a.fault) a.made
-    (footing_failed (ready s).jobs.write.running failure (ready s) ∙ footing_started_or s.jobs.write.running s) h
+    ((unmoved_failed (ready s).jobs.write.running failure (ready s)).footing ∙ (unmoved_ready s.jobs.write.running s).footing) h
 write_keeps first s held (step.Turned batches failure) device a h = same_told first s _ a.quiet.same refl h
 write_keeps first s held step.Idle device a h = same_told first s _ a.quiet.same refl h
+write_keeps first s held (step.Full weight immutables) device a h = same_told first s _ a.quiet.same refl h
 write_keeps first s held (step.Spent counter) device a h = same_told first s _ a.quiet.same refl h
 write_keeps first s held (step.Cancelled job current) device a h = same_told first s _ a.quiet.same refl h
 write_keeps first s held step.OutOfMemory device a h = same_told first s _ a.quiet.same refl h
+
+-- ---- a resume step
+
+resumed : (first : ℕ) (s next : State) (drafts : List Draft) (held : Option ℕ) (running : Resumption) (act : plans.Act) (later : List plans.Act) (failed : Option Fault)
+    → resuming.MadeCall s drafts held running act later failed next.device → next.footing ≡ s.footing → IsCounted first s → IsCounted first next
+resumed first s next drafts held running act later failed made footing h =
+    stays first s next (call_keeps (plans.change_of running.job s.numbers.next_file act) s.device.told failed next.device.told made.calls.step) footing h
+
+resume_keeps : (first : ℕ) (s : State) (drafts : List Draft) (held : Option ℕ) (answer : ResumeStep) (device : Seen) → resuming.ResumeAnswers s drafts held answer device → IsCounted first s
+    → IsCounted first (with_device device (resuming.resume_after s drafts answer))
+resume_keeps first s drafts held (resume_step.Moved job call) device a h =
+    resumed first s (with_device device (resuming.call_done drafts s)) drafts held a.running a.act (a.next ∷ a.later) None a.made (footing_done s drafts held a.running a.act (a.next ∷ a.later) a.made.makes) h
+resume_keeps first s drafts held (resume_step.Cleared job steps) device a h =
+    resumed first s (with_device device (resuming.call_done drafts s)) drafts held a.running a.act [] None a.made (footing_done s drafts held a.running a.act [] a.made.makes) h
+resume_keeps first s drafts held (resume_step.Failed failure) device a h =
+    resumed first s (with_device device (resuming.call_failed drafts failure s)) drafts held a.running a.act a.later (Some a.fault) a.made
+    (ap (λ (m : State). m.footing) (failed_is s drafts held a.running a.act a.later failure a.made.makes) ∙ footing_ready s.jobs.resume.running drafts s) h
+resume_keeps first s drafts held resume_step.Idle device a h = same_told first s _ a.quiet.same refl h
+resume_keeps first s drafts held (resume_step.Spent counter) device a h = same_told first s _ a.quiet.same refl h
+resume_keeps first s drafts held (resume_step.Cancelled job current) device a h = same_told first s _ a.quiet.same refl h
+resume_keeps first s drafts held resume_step.OutOfMemory device a h = same_told first s _ a.quiet.same refl h
 
 -- ---- a crash
 
@@ -109,19 +139,22 @@ crash_keeps first s pick None device bound a h =
 admit_keeps : (first : ℕ) (s : State) (batch : Batch) (answer : Admit) (device : Seen) → device.told ≡ s.device.told → IsCounted first s → IsCounted first (with_device device (admit_after s batch answer))
 admit_keeps first s batch (admit.Queued ticket) device same h = same_told first s _ same refl h
 admit_keeps first s batch (admit.BadSize part size) device same h = same_told first s _ same refl h
+admit_keeps first s batch admit.Booting device same h = same_told first s _ same refl h
+admit_keeps first s batch (admit.Full weight immutables) device same h = same_told first s _ same refl h
 admit_keeps first s batch (admit.Stopped failure) device same h = same_told first s _ same refl h
 admit_keeps first s batch (admit.Spent counter) device same h = same_told first s _ same refl h
 admit_keeps first s batch (admit.QueueFull waiting) device same h = same_told first s _ same refl h
 admit_keeps first s batch admit.OutOfMemory device same h = same_told first s _ same refl h
 
 answer_keeps : (first : ℕ) (s : State) (event : Event) (device : Seen) → first < 2 ^ 64 - 1 → Answers s event device → IsCounted first s → IsCounted first (after s event device)
-answer_keeps first s (Opening (Ok found)) device bound a h = same_told first s _ a.quiet.same refl h
-answer_keeps first s (Opening (Err refused_by)) device bound a h = same_told first s _ a.quiet.same refl h
+answer_keeps first s (Opening options (Ok found)) device bound a h = same_told first s _ a.quiet.same refl h
+answer_keeps first s (Opening options (Err refused_by)) device bound a h = same_told first s _ a.quiet.same refl h
 answer_keeps first s (Admitting batch answer) device bound a h = admit_keeps first s batch answer device (ap (λ (d : Seen). d.told) a.1) h
 answer_keeps first s (Writing held answer) device bound a h = write_keeps first s held answer device a h
+answer_keeps first s (Resuming drafts held answer) device bound a h = resume_keeps first s drafts held answer device a h
 answer_keeps first s (TakingOutcome ticket outcome) device bound a h = same_told first s _ (ap (λ (d : Seen). d.told) a.1) refl h
-answer_keeps first s (Getting key got) device bound a h = same_told first s _ a.1.same refl h
-answer_keeps first s (Scanning from to scanned) device bound a h = same_told first s _ a.1.same refl h
+answer_keeps first s (Getting key got) device bound a h = same_told first s _ (got_quiet s key got device a) refl h
+answer_keeps first s (Scanning from to scanned) device bound a h = same_told first s _ (scan_quiet s from to scanned device a) refl h
 answer_keeps first s (Listing answer) device bound a h = same_told first s _ a.quiet.same refl h
 answer_keeps first s (Crashing pick kept) device bound a h = crash_keeps first s pick kept device bound a h
 answer_keeps first s Finishing device bound a h = same_told first s _ (ap (λ (d : Seen). d.told) a) refl h

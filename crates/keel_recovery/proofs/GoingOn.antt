@@ -1,19 +1,25 @@
 -- An opening that goes on with a story.
-use Rattle.std.proofs.Common.{◌≡◌, Bool, true, false, refl, sym, List, ◌++◌, take, Option, Some, None, Err, ap, subst, ◌∙◌, take_all}
+use Rattle.std.proofs.Common.{◌≡◌, true, false, refl, sym, ℕ, List, ◌++◌, take, Option, Some, None, Err, ap, subst, ◌∙◌, take_all}
 use Rattle.std.proofs.lemmas.List.{append-nil}
 use Rattle.keel_base.specs.Points.{fold_batches}
 use Rattle.keel_base.specs.declared.op.Op.{Op}
 use Rattle.keel_disk.specs.Told.{Told}
 use Rattle.keel_disk.specs.Plain.{image_read}
+use Rattle.keel_directory.specs.Reading.{IsReading, refused}
+use Rattle.keel_directory.specs.Refusals.{Refusal}
+use Rattle.keel_directory.specs.Sound.{IsSoundReading}
+use Rattle.keel_directory.specs.Standing.{ReadsAs}
+use Rattle.keel_directory.proofs.OneReading.{reading_one}
 use Rattle.keel_machine.specs.Opening.{goes_on_from}
-use Rattle.keel_machine.specs.States.{State, Footing, Known, Unknown, Leaving, Nothing, Crashed, Left, is_open, is_left, Story, point_of}
-use Rattle.keel_reading.specs.declared.refusal.OpenRefusal.{OpenRefusal}
-use Rattle.keel_reading.specs.declared.refusal.OpenRefusal.TheVariants as refusal
-use Rattle.keel_reading.specs.Answers.{ReadAnswers, NamesOther}
-use Rattle.keel_reading.specs.Reading.{Reads}
-use Rattle.keel_reading.proofs.Founding.{sound_names}
+use Rattle.keel_machine.specs.States.{State, Footing, Known, Unknown, Phase, Shut, Booting, Open, Leaving, Nothing, Crashed, Left, is_open, is_left, Story}
+use Rattle.keel_open.specs.declared.refusal.OpenRefusal.{OpenRefusal}
+use Rattle.keel_open.specs.declared.refusal.OpenRefusal.TheVariants as refusal
+use Rattle.keel_open.specs.Refusals.{Names}
+use Rattle.keel_open.specs.Stores.{StoreTells}
+use Rattle.keel_table.specs.declared.fault.TableFault.{TableFault}
+use Rattle.keel_table.specs.declared.fault.TableFault.TheVariants as fault
 use Rattle.keel_recovery.specs.Machine.{IsLeft, KeptBy, IsCoveredBy, ReadsOn, ReadsOnIn, CoveredReads, IsOfDevice, OpeningGoesOn}
-use Rattle.keel_recovery.proofs.Readable.{no_bad_log, no_gap, no_other}
+use Rattle.keel_recovery.proofs.Machine.{directory_at_rest}
 
 left_reads : (told : Told) (story : Story) → IsLeft told.state story → ReadsOn told story
 left_reads told story h =
@@ -22,43 +28,68 @@ left_reads told story h =
     let all : story.log ++ story.limbo ≡ story.log = ap (λ (l : List (List Op)). story.log ++ l) h.after_crash.none_in_limbo ∙ append-nil story.log in
     let whole : take at.count (story.log ++ story.limbo) ≡ story.log = ap (take at.count) all ∙ take_all at.count story.log at.enough in
     record {
-      names = sound_names told.state h.at_rest.sound;
-      reads = subst (Reads (image_read told.state)) (at.point_is ∙ ap (fold_batches story.start) whole) now.1;
+      reads = subst (ReadsAs (image_read told.state)) (at.point_is ∙ ap (fold_batches story.start) whole) now.1;
       after_crash = h.after_crash;
     }
 
 -- behind a crash no store is open
-crashed_reads : (opens : Bool) (leaving : Leaving) (told : Told) (s : State) → leaving ≡ Crashed → opens ≡ false → KeptBy opens (is_left leaving) told.state s → ReadsOn told s.story
-crashed_reads true leaving told s is shut h = cc
-crashed_reads false Nothing told s is shut h = cc
-crashed_reads false Crashed told s is shut h = left_reads told s.story h
-crashed_reads false Left told s is shut h = left_reads told s.story h
+crashed_left : (phase : Phase) (leaving : Leaving) (told : Told) (s : State) → leaving ≡ Crashed → is_open phase ≡ false → KeptBy phase (is_left leaving) told.state s → IsLeft told.state s.story
+crashed_left Booting leaving told s is shut h = cc
+crashed_left Open leaving told s is shut h = cc
+crashed_left Shut Nothing told s is shut h = cc
+crashed_left Shut Crashed told s is shut h = h
+crashed_left Shut Left told s is shut h = h
 
-reads_by : (f : Footing) (leaving : Leaving) (told : Option Told) (s : State) → leaving ≡ s.mode.left → goes_on_from leaving f ≡ true → is_open s.mode.phase ≡ false → IsCoveredBy f s.mode told s → ReadsOnIn told s.story
-reads_by Unknown Nothing told s is goes shut h = cc
-reads_by Unknown Crashed told s is goes shut h = cc
-reads_by Unknown Left told s is goes shut h = cc
-reads_by Known Nothing told s is goes shut h = cc
-reads_by Known Left told s is goes shut h = cc
-reads_by Known Crashed None s is goes shut h = h
-reads_by Known Crashed (Some told) s is goes shut h = crashed_reads (is_open s.mode.phase) s.mode.left told s (sym is) shut h
+-- what is left of a story that goes on
+abbrev LeftIn : Option Told → Story → Type 0
+LeftIn None story = ⊥
+LeftIn (Some told) story = IsLeft told.state story
+
+left_by : (f : Footing) (leaving : Leaving) (told : Option Told) (s : State) → leaving ≡ s.mode.left → goes_on_from leaving f ≡ true → is_open s.mode.phase ≡ false → IsCoveredBy f s.mode told s → LeftIn told s.story
+left_by Unknown Nothing told s is goes shut h = cc
+left_by Unknown Crashed told s is goes shut h = cc
+left_by Unknown Left told s is goes shut h = cc
+left_by Known Nothing told s is goes shut h = cc
+left_by Known Left told s is goes shut h = cc
+left_by Known Crashed None s is goes shut h = h
+left_by Known Crashed (Some told) s is goes shut h = crashed_left s.mode.phase s.mode.left told s (sym is) shut h
+
+reads_in : (told : Option Told) (story : Story) → LeftIn told story → ReadsOnIn told story
+reads_in None story h = h
+reads_in (Some told) story h = left_reads told story h
 
 pub covered_reads : CoveredReads
-covered_reads s shut goes h = reads_by s.footing s.mode.left s.device.told s refl goes shut h
+covered_reads s shut goes h = reads_in s.device.told s.story (left_by s.footing s.mode.left s.device.told s refl goes shut h)
 
 -- ---- what refuses it
 
-not_refused : (told : Told) (story : Story) (refused_by : OpenRefusal) → ReadsOn told story → ReadAnswers (Some told) (Err refused_by) → NamesOther (Some told) (Err refused_by) → IsOfDevice refused_by
-not_refused told story (refusal.Device fault) reads cause other = tt
-not_refused told story refusal.OutOfMemory reads cause other = tt
-not_refused told story (refusal.NoCurrent file) reads cause other = no_other told (point_of story) file reads.reads other
-not_refused told story (refusal.BadLog log at) reads cause other = no_bad_log (image_read told.state) (point_of story) log at reads.reads (cause reads.names)
-not_refused told story (refusal.LogGap log expected found) reads cause other =
-    no_gap (image_read told.state) (point_of story) log expected found reads.reads (cause reads.names)
+-- a directory with a sound reading isn't refused
+not_read_so : (told : Told) (story : Story) (refusal : Refusal) → IsLeft told.state story → IsReading (image_read told.state) (refused refusal) → ⊥
+not_read_so told story refusal h is =
+    let now = h.stands.now.1 in
+    subst IsSoundReading (reading_one (image_read told.state) now.reading (refused refusal) now.is_read is) now.sound
 
-refused_for : (told : Option Told) (story : Story) (refused_by : OpenRefusal) → ReadsOnIn told story → ReadAnswers told (Err refused_by) → NamesOther told (Err refused_by) → IsOfDevice refused_by
-refused_for None story refused_by reads cause other = absurd reads
-refused_for (Some told) story refused_by reads cause other = not_refused told story refused_by reads cause other
+of_table : (told : Told) (story : Story) (number : ℕ) (cause : TableFault) → IsLeft told.state story → Names (refusal.BadTable number cause) (λ r. IsReading (image_read told.state) (refused r)) → ⊥
+of_table told story number (fault.Device f) h names = names
+of_table told story number fault.Absent h names = names
+of_table told story number (fault.BadCheck stored computed) h names = not_read_so told story _ h names
+of_table told story number (fault.BadShape at) h names = not_read_so told story _ h names
+of_table told story number fault.OutOfMemory h names = names
+
+not_refused : (told : Told) (story : Story) (refused_by : OpenRefusal) → IsLeft told.state story → Names refused_by (λ r. IsReading (image_read told.state) (refused r)) → IsOfDevice refused_by
+not_refused told story (refusal.Device fault) h names = tt
+not_refused told story refusal.OutOfMemory h names = tt
+not_refused told story (refusal.NoCurrent file) h names = not_read_so told story _ h names
+not_refused told story (refusal.BadCurrent bytes) h names = not_read_so told story _ h names
+not_refused told story (refusal.DamagedManifest at) h names = not_read_so told story _ h names
+not_refused told story (refusal.MissingTable number) h names = not_read_so told story _ h names
+not_refused told story (refusal.BadTable number cause) h names = absurd (of_table told story number cause h names)
+not_refused told story (refusal.BadLog log at) h names = not_read_so told story _ h names
+not_refused told story (refusal.LogGap log expected found) h names = not_read_so told story _ h names
+
+refused_for : (told : Option Told) (story : Story) (refused_by : OpenRefusal) → LeftIn told story → StoreTells told (Err refused_by) → IsOfDevice refused_by
+refused_for None story refused_by h cause = absurd h
+refused_for (Some told) story refused_by h cause = not_refused told story refused_by h (cause (directory_at_rest told.state h.at_rest))
 
 pub opening_goes_on : OpeningGoesOn
-opening_goes_on s refused_by device shut goes h answers = refused_for s.device.told s.story refused_by (covered_reads s shut goes h) answers.cause answers.other
+opening_goes_on s refused_by device shut goes h answers = refused_for s.device.told s.story refused_by (left_by s.footing s.mode.left s.device.told s refl goes shut h) answers.cause

@@ -1,153 +1,120 @@
--- A device at rest that is opened.
-use Rattle.std.specs.Prelude.{option_map, unwrap_or}
-use Rattle.std.proofs.Common.{◌≡◌, inl, inr, ℕ, ◌<◌, ◌≤◌, Bool, true, false, List, [], ◌∷◌, ◌++◌, length, take, drop, Option, Some, None, refl, sym, ap, subst, ◌∙◌, arith, take_all, if◌then◌else◌, eqb, eqb-true}
-use Rattle.std.proofs.lemmas.List.{append-nil, drop_all}
-use Rattle.keel_base.specs.Points.{Point, fold_batches}
-use Rattle.keel_base.specs.declared.file_name.FileName.{FileName}
-use Rattle.keel_base.specs.declared.file_name.FileName.TheVariants.{Log}
+-- An opening of a device at rest leaves a store that boots.
+use Rattle.std.proofs.Common.{◌≡◌, ℕ, true, false, if◌then◌else◌, List, [], ◌∷◌, length, Option, Some, None, option_map, Ok, refl, sym, ap, subst, ◌∙◌, arith}
+use Rattle.std.specs.Prelude.{nat_le}
+use Rattle.std.specs.List.{AllByRecursion}
+use Rattle.std.proofs.lemmas.Bool.{leb-true}
+use Rattle.keel_base.specs.declared.file_name.FileName.TheVariants.{Current}
 use Rattle.keel_base.specs.declared.op.Op.{Op}
-use Rattle.keel_base.specs.Name.{name_eq}
-use Rattle.keel_disk.specs.declared.state.File.{File}
+use Rattle.keel_base.specs.Points.{Point}
+use Rattle.keel_directory.specs.Reading.{Reading, StoreRead, new, held, refused, IsReading, HasPoint, all_rows}
+use Rattle.keel_directory.specs.Sound.{IsSoundReading}
+use Rattle.keel_directory.specs.TableFiles.{TableFile, Opens}
+use Rattle.keel_directory.proofs.OneReading.{reading_one}
+use Rattle.keel_disk.specs.declared.state.Operation.{Operation}
 use Rattle.keel_disk.specs.Directory.{Named, find, operated_all}
-use Rattle.keel_disk.specs.State.{State, file_at, has_waiting_cut}
-use Rattle.keel_disk.specs.Image.{AllFirm}
-use Rattle.keel_disk.specs.Plain.{bytes_read, image_read}
-use Rattle.keel_disk.specs.Sound.{IsAtRest}
-use Rattle.keel_disk.specs.Steady.{Always, IsHeld}
+use Rattle.keel_disk.specs.Plain.{image_read}
+use Rattle.keel_disk.specs.Sound.{AreOwn, IsAtRest}
+use Rattle.keel_disk.specs.State.{State as Disk, file_at, directory_read}
+use Rattle.keel_disk.specs.Told.{Told, TellsListing}
 use Rattle.keel_disk.proofs.Imaging.{read_found}
-use Rattle.keel_disk.proofs.Meaning.{rest_reads}
-use Rattle.keel_disk.proofs.Resting.{rest_has_one}
-use Rattle.keel_machine.specs.States.{Story, new_story}
-use Rattle.keel_reading.specs.Logs.{log_bytes}
-use Rattle.keel_reading.specs.Reading.{AreLogsBelow, ReadsBelow, Reads}
-use Rattle.keel_recovery.specs.Chains.{OthersEmpty}
-use Rattle.keel_recovery.specs.Crashing.{IsAfterCrash}
-use Rattle.keel_recovery.specs.Keeping.{IsFirmLog, AreLogs, IsBase, point_at}
-use Rattle.keel_recovery.specs.Laws.{OpeningKeeps}
-use Rattle.keel_recovery.specs.Standing.{ReadsIn, Stands}
-use Rattle.keel_reading.proofs.OneReading.{reads_once}
+use Rattle.keel_disk.proofs.Operating.{is_below}
+use Rattle.keel_machine.specs.Opening.{Found, IsFoundIn, IsFoundBy, continues, opened, ops_replayed, replayed_segments, tables_in}
+use Rattle.keel_machine.specs.Resuming.{batches_in}
+use Rattle.keel_machine.specs.States.{Story, entries_in, point_of}
+use Rattle.keel_open.specs.Stores.{IsReadBy, StoreTells, replay_in}
+use Rattle.keel_recovery.specs.BootCalls.{BootFacts, IsUnmoved}
+use Rattle.keel_recovery.specs.Booting.{below}
+use Rattle.keel_recovery.specs.Machine.{OpeningBoots}
+use Rattle.keel_recovery.proofs.BootOpened.{just_opened, levels_open}
+use Rattle.keel_recovery.proofs.Found.{held_gives, none_held, same_held, has_map}
+use Rattle.keel_recovery.proofs.Limits.{ImageSmall}
+use Rattle.keel_recovery.proofs.Machine.{directory_at_rest}
+use Rattle.keel_recovery.proofs.Opening.{small_image, all_drawn, point_is, held_facts, new_facts}
+use Rattle.keel_version.specs.Tables.{AreLevels, IsWithin}
 
--- ---- a directory of logs
+all_below : (total : ℕ) (d : Named ℕ) → AreOwn total d → below total d ≡ d
+all_below total [] own = refl
+all_below total (entry ∷ rest) own =
+    elim (nat_le total entry.1) as (λ b. nat_le total entry.1 ≡ b → (if b then below total rest else entry ∷ below total rest) ≡ entry ∷ rest) [
+      | true ↦ λ newer. absurd (omega (arith, own.0.exists, leb-true total entry.1 newer))
+      | false ↦ λ older. ap (λ d. entry ∷ d) (all_below total rest own.1)
+    ] refl
 
--- what was read of a device at rest
-read_rest : (state : State) → IsAtRest state → image_read state ≡ bytes_read state.files state.firm
-read_rest state rest = rw rest.settled.none_waits refl
+-- ---- what was found
 
-logs_below : (bound : ℕ) (files : List File) (directory : Named ℕ) → AreLogsBelow bound (bytes_read files directory) → AreLogsBelow bound directory
-logs_below bound files [] h = tt
-logs_below bound files (entry ∷ rest) h = (h.0, logs_below bound files rest h.1)
+-- the facts of a store that was found, which has no batch where it has no CURRENT
+record FactsOf (image : Named (List ℕ)) (found : Found) (story : Story) : Type 0 where
+  facts : BootFacts found.levels (batches_in (replayed_segments (ops_replayed found.store.batches.items) found.store.logs.items)) found.store.version.last_seq story
+  bare : find Current image ≡ None → ops_replayed found.store.batches.items ≡ []
 
-are_logs : (bound : ℕ) (directory : Named ℕ) → AreLogsBelow bound directory → AreLogs directory
-are_logs bound [] h = tt
-are_logs bound ((FileName.Log number, file) ∷ rest) h = (tt, are_logs bound rest h.1)
-are_logs bound ((other, file) ∷ rest) h = absurd h.0
+module _ (image : Named (List ℕ)) (small : ImageSmall image) (found : Found) (story : Story) (order : AreLevels found.store.version.tables) (within : IsWithin found.store.version)
+    (tables : entries_in found.levels ≡ found.store.version.tables) (seq : found.point.seq ≡ found.store.last_seq) (point : point_of story ≡ found.point) where
+  not_both : (f : StoreRead) (p : Point) → IsReading image new → IsReading image (held f p) → ⊥
+  not_both f p a b = let e = reading_one image new (held f p) a b in cc
 
--- no other directory can come
-always_rest : (P : Named ℕ → Type 0) (state : State) → state.waiting ≡ [] → P state.firm → Always P state
-always_rest P state none now = λ count.
-    let nothing : take count state.waiting ≡ [] = ap (take count) none ∙ take_all count [] (omega arith) in
-    subst (λ operations. P (operated_all operations state.firm)) (sym nothing) now
-
--- each of its files is firm in whole
-firm_file : (files : List File) (directory : Named ℕ) (name : FileName) (file : ℕ) → AllFirm files directory → find name directory ≡ Some file → IsHeld (file_at file files) (file_at file files).read
-firm_file files [] name file firm found = cc
-firm_file files (entry ∷ rest) name file firm found =
-    elim (name_eq entry.0 name) as (λ b. (if b then Some entry.1 else find name rest) ≡ Some file → IsHeld (file_at file files) (file_at file files).read) [
-      | true ↦ λ here.
-          let same : entry.1 ≡ file = cc in
-          subst (λ (n : ℕ). IsHeld (file_at n files) (file_at n files).read) same
-          (record { meant = sym firm.0.read; firm = firm.0.whole ∙ sym (ap length firm.0.read); read = refl })
-      | false ↦ λ later. firm_file files rest name file firm.1 later
-    ] found
-
-module _ (state : State) (number : ℕ) (base : Point) (rest : IsAtRest state) (reads : ReadsBelow number (image_read state) base) where
-  below : AreLogsBelow number state.firm
-  below = logs_below number state.files state.firm (subst (λ (image : Named (List ℕ)). AreLogsBelow number image) (read_rest state rest) reads.logs)
-
-  base_log : (n : ℕ) (found : Option ℕ) → find (Log n) state.firm ≡ found → IsFirmLog n (log_bytes n (image_read state)) state
-  base_log n None is =
-      let none : log_bytes n (image_read state) ≡ [] =
-      ap (λ (image : Named (List ℕ)). log_bytes n image) (read_rest state rest)
-      ∙ ap (λ b. unwrap_or b []) (read_found state.files (Log n) state.firm ∙ ap (option_map (λ k. (file_at k state.files).read)) is) in
-      inr (always_rest (λ d. find (Log n) d ≡ None) state rest.settled.none_waits is, none)
-  base_log n (Some file) is =
-      let bytes : log_bytes n (image_read state) ≡ (file_at file state.files).read =
-      ap (λ (image : Named (List ℕ)). log_bytes n image) (read_rest state rest)
-      ∙ ap (λ b. unwrap_or b []) (read_found state.files (Log n) state.firm ∙ ap (option_map (λ k. (file_at k state.files).read)) is) in
-      inl (
-        file,
-        record {
-          named = always_rest (λ d. find (Log n) d ≡ Some file) state rest.settled.none_waits is;
-          not_cut = ap (has_waiting_cut file) rest.settled.none_waits;
-        },
-        subst (IsHeld (file_at file state.files)) (sym bytes) (firm_file state.files state.firm (Log n) file rest.settled.firm is),
-      )
-
-  pub base_opened : IsBase number base state
-  base_opened = record {
-    held = image_read state;
-    reads = reads;
-    firm = λ n _. base_log n (find (Log n) state.firm) refl;
-    alone = always_rest AreLogs state rest.settled.none_waits (are_logs number state.firm below);
+  facts_of : (reading : Reading) (manifest : Option ℕ) → IsReading image reading → HasPoint reading found.point → found.levels ≡ tables_in reading → IsSoundReading reading → IsReadBy image manifest found.store → FactsOf image found story
+  facts_of (refused refusal) manifest is has levels sound store = absurd has
+  facts_of new None is has levels sound store = record {
+    facts = new_facts image small found story order within tables seq point levels store.base.version store.batches has;
+    bare = λ none. ap ops_replayed store.batches;
   }
+  facts_of new (Some number) is has levels sound store =
+      let st = store.store in
+      let made = has_map (all_rows st.store) in
+      let at : Point = record { values = made.0; seq = found.store.last_seq } in
+      absurd (not_both st.store at is (st.reads at made.1 refl))
+  facts_of (held f p) None is has levels sound store = absurd (not_both f p store.reads is)
+  facts_of (held f p) (Some number) is has levels sound store =
+      let st = store.store in
+      let made = has_map (all_rows st.store) in
+      let at : Point = record { values = made.0; seq = found.store.last_seq } in
+      let same : f ≡ st.store = same_held image f st.store p at is (st.reads at made.1 refl) in
+      let replay : f.replay ≡ replay_in found.store = ap (λ (g : StoreRead). g.replay) same ∙ st.replay_is in
+      let read : IsReading image (held f found.point) = subst (λ (q : Point). IsReading image (held f q)) (sym has) is in
+      record {
+        facts = held_facts image small found story order within tables seq point f levels (ap (λ (g : StoreRead). g.version) same ∙ st.version) (ap (λ r. r.batches) replay) (ap (λ r. r.last) replay)
+            sound (held_gives image f found.point read);
+        bare = λ none. absurd (none_held image f p none is);
+      }
 
-  -- no log is there from that number on
-  none_above : (n file : ℕ) → number ≤ n → find (Log n) state.firm ≡ Some file → ⊥
-  none_above n file above found = by state.firm below found
-    where
-      not_equal : (m : ℕ) → m < number → (b : Bool) → eqb m n ≡ b → b ≡ false
-      not_equal m less true same = absurd (let e : m ≡ n = eqb-true m n same in omega (arith, less, above, e))
-      not_equal m less false differs = refl
+-- ---- the store that boots
 
-      by : (directory : Named ℕ) → AreLogsBelow number directory → find (Log n) directory ≡ Some file → ⊥
-      by [] h e = cc
-      by ((FileName.Log m, value) ∷ others) h e =
-          let apart : eqb m n ≡ false = not_equal m h.0 (eqb m n) refl in
-          by others h.1 (sym (let skip : find (Log n) ((FileName.Log m, value) ∷ others) ≡ find (Log n) others = rw apart refl in skip) ∙ e)
-      by ((other, value) ∷ others) h e = absurd h.0
+no_batches : (ops : List (List Op)) (logs : List ℕ) → ops ≡ [] → replayed_segments ops logs ≡ []
+no_batches ops logs e = ap (λ l. replayed_segments l logs) e
 
-  pub others_opened : OthersEmpty number [] state
-  others_opened = λ count n file above none found.
-      absurd (none_above n file above (sym (always_rest (λ d. find (Log n) d ≡ find (Log n) state.firm) state rest.settled.none_waits refl count) ∙ found))
-
--- the reading is the point of the story that the device stands for
-pub read_story : (state : State) (number : ℕ) (base : Point) (story : Story) → ReadsBelow number (image_read state) base → IsAfterCrash story → Stands state story → base ≡ fold_batches story.start story.log
-read_story state number base story reads after stands =
-    let now = stands.now in
-    let at = now.2 in
-    let all : story.log ++ story.limbo ≡ story.log = ap (λ (l : List (List Op)). story.log ++ l) after.none_in_limbo ∙ append-nil story.log in
-    let whole : take at.count (story.log ++ story.limbo) ≡ story.log = ap (take at.count) all ∙ take_all at.count story.log at.enough in
-    reads_once (image_read state) base now.0 (number, reads) now.1 ∙ at.point_is ∙ ap (fold_batches story.start) whole
-
-pub opening_keeps : OpeningKeeps
-opening_keeps state number base story rest reads after stands =
-    let place = length story.log in
-    let whole : story.log ++ story.limbo ≡ story.log = ap (λ (l : List (List Op)). story.log ++ l) after.none_in_limbo ∙ append-nil story.log in
-    let at : point_at place story ≡ base =
-    ap (fold_batches story.start) (ap (take place) whole ∙ take_all place story.log (omega arith)) ∙ sym (read_story state number base story reads after stands) in
+pub opening_boots : OpeningBoots
+opening_boots s options found device told is a rest after stands =
+    let state = told.state in
+    let image = image_read state in
+    let story = (opened options found s).story in
+    let directory = directory_at_rest state rest in
+    let inside : IsFoundIn told found = (subst (λ (o : Option Told). IsFoundBy o found) is a.finds.read) directory in
+    let store : IsReadBy image found.store.manifest found.store = (subst (λ (o : Option Told). StoreTells o (Ok found.store)) is a.cause) directory in
+    let point : point_of story ≡ found.point = point_is (continues s.mode s.footing) s.story found.point a.finds.goes_on in
+    let now = stands.now.1 in
+    let sound : IsSoundReading inside.reading = subst IsSoundReading (reading_one image now.reading inside.reading now.is_read inside.is_read) now.sound in
+    let facts = facts_of image (small_image state.files (directory_read state) rest.sound.files) found story a.finds.order a.finds.within a.finds.tables a.finds.seq point inside.reading found.store.manifest inside.is_read inside.has inside.levels sound store in
+    let drawn = all_drawn told found.store.listing found.store.next_file rest a.finds.next.over (subst (λ (o : Option Told). TellsListing o found.store.listing) is a.finds.listing) in
+    let opens = subst (λ ts. AllByRecursion (λ (table : TableFile). Opens image table.entry table) ts) (sym inside.levels) (levels_open image inside.reading inside.is_read) in
     record {
-      base = subst (λ (p : Point). IsBase number p state) (sym at) (base_opened state number base rest reads);
-      stored = record {
-        least_is = tt;
-        in_turn = tt;
-        batches_are = ap (drop place) whole ∙ drop_all place story.log (omega arith);
-        limits = tt;
-        place_within = omega arith;
-        floor_within = omega (arith, after.all_stay);
-        chained = tt;
-        others = others_opened state number base rest reads;
-      };
-      read = rest_reads state rest;
+      bound = length state.files;
+      booting = just_opened state rest found.levels story found.store.next_file stands opens drawn;
+      after = after;
+      numbered = a.finds.next.positive;
+      bare = λ unmoved none. no_batches (ops_replayed found.store.batches.items) found.store.logs.items (facts.bare (no_current state rest none));
+      facts = facts.facts;
+      unbegun = λ failures runs. never_moved state rest;
+      runs = tt;
+      none_active = refl;
+      none_waits = refl;
+      no_group = refl;
     }
+  where
+    no_current : (state : Disk) → IsAtRest state → find Current (below (length state.files) state.firm) ≡ None → find Current (image_read state) ≡ None
+    no_current state rest none =
+        let firm : find Current state.firm ≡ None = subst (λ d. find Current d ≡ None) (all_below (length state.files) state.firm (rest.sound.one_to_one 0)) none in
+        let here : find Current (directory_read state) ≡ None = subst (λ (ops : List Operation). find Current (operated_all ops state.firm) ≡ None) (sym rest.settled.none_waits) firm in
+        read_found state.files Current (directory_read state) ∙ ap (option_map (λ n. (file_at n state.files).read)) here
 
--- where the directory of a device at rest has a reading in the story, so has every plain image
-pub rest_stands : (state : State) (story : Story) → IsAtRest state → ReadsIn story story.floor (image_read state) → ReadsIn story (length story.log) (image_read state) → Stands state story
-rest_stands state story rest images now = record {
-  images = λ image plain. subst (ReadsIn story story.floor) (sym (rest_has_one state rest image (plain.0, plain.1.0))) images;
-  now = now;
-}
-
-pub first_stands : (state : State) (point : Point) → IsAtRest state → Reads (image_read state) point → Stands state (new_story point)
-first_stands state point rest reads =
-    let read : ReadsIn (new_story point) 0 (image_read state) = (point, reads, record { count = 0; enough = omega arith; within = omega arith; point_is = refl }) in
-    rest_stands state (new_story point) rest read read
+    never_moved : (state : Disk) → IsAtRest state → IsUnmoved (length state.files) state
+    never_moved state rest = λ count current named newer. omega (arith, newer, is_below (length state.files) Current current _ (rest.sound.one_to_one count) named)

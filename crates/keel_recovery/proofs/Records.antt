@@ -5,10 +5,10 @@ use Rattle.keel_base.specs.declared.op.Op.{Op}
 use Rattle.keel_batch.specs.Batches.{payloads_behind}
 use Rattle.keel_disk.specs.declared.state.File.{File}
 use Rattle.keel_disk.specs.Step.{extended, spoiled, synced}
-use Rattle.keel_disk.specs.Steady.{IsGoing}
+use Rattle.keel_disk.specs.Steady.{IsGoing, IsFirmWhole}
 use Rattle.keel_frag.specs.Writing.{records_bytes}
 use Rattle.keel_frag.proofs.Continuing.{going_on}
-use Rattle.keel_machine.specs.Admission.{count_ops}
+use Rattle.keel_resume.specs.Drafts.{count_ops}
 use Rattle.keel_recovery.specs.Chains.{payloads, size_of_first, HoldsRecords}
 use Rattle.keel_recovery.proofs.Numbering.{payloads_append, payloads_length}
 use Rattle.keel_recovery.proofs.Passing.{take_length}
@@ -63,3 +63,11 @@ records_synced lasting shown firm more payloads file h going =
   where
     synced_is : (f : File) → f.spoilt ≡ false → synced f ≡ record f { firm = length f.meant }
     synced_is f sound = rw sound refl
+
+-- a file that goes is firm in whole behind its sync
+pub synced_whole : (file : File) → IsGoing file → IsFirmWhole (synced file)
+synced_whole file going =
+    subst IsFirmWhole (sym (is file going.not_spoilt)) (record { meant = refl; firm = refl; read = going.read })
+  where
+    is : (f : File) → f.spoilt ≡ false → synced f ≡ record f { firm = length f.meant }
+    is f sound = rw sound refl

@@ -1,6 +1,6 @@
 -- What a write step and a queued batch do to the order of batches, where no call is made.
-use Rattle.std.specs.Prelude.{◌==◌, nat_le, not, ◌&&◌, is_some}
-use Rattle.std.proofs.Common.{◌≡◌, inl, ℕ, zero, suc, ◌+◌, ◌^◌, ◌<◌, ◌≤◌, Bool, true, false, List, [], ◌∷◌, ◌++◌, length, take, drop, Option, Some, None, option_map, refl, sym, ap, subst, ◌∙◌, arith}
+use Rattle.std.specs.Prelude.{◌==◌, nat_le, ◌&&◌}
+use Rattle.std.proofs.Common.{◌≡◌, inl, inr, ℕ, zero, suc, ◌+◌, ◌^◌, ◌<◌, ◌≤◌, Bool, true, false, List, [], ◌∷◌, ◌++◌, length, take, drop, Option, Some, None, option_map, refl, sym, ap, subst, ◌∙◌, arith}
 use Rattle.std.proofs.lemmas.Bool.{leb-false}
 use Rattle.std.proofs.lemmas.List.{append_assoc, append-nil, map-append}
 use Rattle.keel_base.specs.declared.failure.Failure.{Failure}
@@ -12,17 +12,18 @@ use Rattle.keel_disk.specs.State.{State as Disk}
 use Rattle.keel_base.specs.declared.failure.Counter.TheVariants.{FileNumber}
 use Rattle.keel_machine.specs.declared.steps.WriteStep.{WriteStep}
 use Rattle.keel_machine.specs.declared.steps.WriteStep.TheVariants.{Idle, Spent}
-use Rattle.keel_machine.specs.Admission.{stopping, ops_of, count_ops, batches_of_group}
+use Rattle.keel_machine.specs.Admission.{stopping, ops_of, batches_of_group, is_full}
+use Rattle.keel_resume.specs.Drafts.{count_ops}
+use Rattle.keel_directory.specs.TableFiles.{TableFile}
 use Rattle.keel_group.specs.Queue.{Ticketed, tickets_of, batches_of}
 use Rattle.keel_group.specs.Forming.{next_size, next_batches, wants_sync}
-use Rattle.keel_machine.specs.States.{State, Story, SegmentLog, Segment, Group, Act, MakeLog, newest_log, active_log, left_of, point_of}
+use Rattle.keel_machine.specs.States.{State, Story, SegmentLog, Segment, Group, Act, MakeLog, left_of, point_of}
 use Rattle.keel_machine.specs.Tests.{first_some, differing}
 use Rattle.keel_machine.specs.Writing.{group_plan, nothing_made, formed, started, started_or, ready, turned_away, is_nobody_waiting, is_file_spent, draws, rests_before_group, rests_of, cancelled, write_rest}
 use Rattle.keel_machine.proofs.FirstTests.{none_some, none_first, none_later, none_mapped, none_when, none_of}
-use Rattle.keel_recovery.specs.Calls.{AllWhole, CanGrow}
-use Rattle.keel_recovery.specs.Machine.{ops_waiting, AtMaking, AtWriting, AreOnTheirWay, UnlessStopped, HoldsBy, IsStored}
-use Rattle.keel_recovery.proofs.Numbering.{batches_append}
-use Rattle.keel_recovery.proofs.Parting.{front_batches, counted_append}
+use Rattle.keel_recovery.specs.Calls.{CanGrow}
+use Rattle.keel_recovery.specs.Machine.{ops_waiting, IsAt, AreOnTheirWay, UnlessStopped, HoldsBy, IsStored}
+use Rattle.keel_recovery.proofs.Numbering.{batches_append, front_batches, counted_append}
 use Rattle.keel_recovery.proofs.Sizes.{IsWithinLimits}
 
 -- ---- a group is formed
@@ -34,57 +35,50 @@ ops_split (suc n) [] = refl
 ops_split (suc n) (first ∷ rest) = ap (λ (l : List (List Op)). first.batch.ops ∷ l) (ops_split n rest)
 
 abbrev group_of : List ℕ → List Batch → Bool → Bool → Group
-group_of tickets batches has_log sync = record { tickets = tickets; batches = batches; plan = group_plan has_log sync; progress = nothing_made }
+group_of tickets batches switches sync = record { tickets = tickets; batches = batches; plan = group_plan switches sync; progress = nothing_made }
 
-formed_keeps : (state : Disk) (story : Story) (immutable : List Segment) (own : List (List Op)) (logs : List SegmentLog) (waiting rest : List Ticketed) (batches : List Batch) (sync : Bool) (stops : Option Failure)
-    (tickets : List ℕ) (next_file : ℕ) → stops ≡ None → ops_waiting waiting ≡ ops_of batches ++ ops_waiting rest → HoldsBy logs state story immutable own waiting stops None next_file
-    → HoldsBy logs state story immutable own rest stops (Some (group_of tickets batches (is_some (newest_log logs)) sync)) next_file
-formed_keeps state story immutable own [] waiting rest batches sync None tickets next_file none split h = record {
+formed_keeps : (o : Option SegmentLog) (state : Disk) (levels : List TableFile) (story : Story) (immutable : List Segment) (own : List (List Op)) (waiting rest : List Ticketed) (batches : List Batch) (switches sync : Bool)
+    (stops : Option Failure) (tickets : List ℕ) (next_file in_tables : ℕ) → stops ≡ None → ops_waiting waiting ≡ ops_of batches ++ ops_waiting rest
+    → HoldsBy o state levels story immutable own waiting stops None next_file in_tables
+    → HoldsBy o state levels story immutable own rest stops (Some (group_of tickets batches switches sync)) next_file in_tables
+formed_keeps None state levels story immutable own waiting rest batches switches sync stops tickets next_file in_tables none split h = h
+formed_keeps (Some log) state levels story immutable own waiting rest batches switches sync (Some failure) tickets next_file in_tables none split h = none_some failure none
+formed_keeps (Some log) state levels story immutable own waiting rest batches switches sync None tickets next_file in_tables none split h = record {
+  ways = h.ways;
   place = h.place;
-  least = h.least;
-  full = h.full;
-  are_full = h.are_full;
-  none = h.none;
-  keeps = h.keeps;
-  next = h.next;
-  order = (
-    h.order.0,
-    record { none_in_limbo = h.order.1; sync = sync; left_is = refl },
-    subst (λ (l : List (List Op)). AreBatches (point_of story).seq (story.limbo ++ l)) split h.order.2,
-  );
-}
-formed_keeps state story immutable own (log ∷ logs) waiting rest batches sync None tickets next_file none split h = record {
-  place = h.place;
-  least = h.least;
   full = h.full;
   are_full = h.are_full;
   own = h.own;
   number_is = h.number_is;
   batches_are = h.batches_are;
   keeps = h.keeps;
-  next = h.next;
+  reach = h.reach;
+  tables_to = h.tables_to;
   order = (
     h.order.0,
-    inl (record { none_in_limbo = h.order.1; sync = sync; left_is = refl }),
+    at switches h.order.1,
     subst (λ (l : List (List Op)). AreBatches (point_of story).seq (story.limbo ++ l)) split h.order.2,
   );
 }
-formed_keeps state story immutable own logs waiting rest batches sync (Some failure) tickets next_file none split h = none_some failure none
+  where
+    at : (switches : Bool) → story.limbo ≡ [] → IsAt state story next_file h.own (Some (group_of tickets batches switches sync))
+    at true none = inr (inl (record { none_in_limbo = none; sync = sync; left_is = refl }))
+    at false none = inl (inl (record { none_in_limbo = none; sync = sync; left_is = refl }))
 
 started_keeps : (state : Disk) (waiting : List Ticketed) (s : State) → stopping s ≡ None
-    → HoldsBy s.segments.active.logs state s.story s.segments.immutable s.segments.active.batches waiting (stopping s) None s.numbers.next_file
+    → HoldsBy s.segments.active.log state s.levels s.story s.segments.immutable s.segments.active.batches waiting (stopping s) None s.numbers.next_file s.numbers.in_tables
     → IsStored state s → IsStored state (started waiting s)
 started_keeps state [] s none h same = same
 started_keeps state (first ∷ rest) s none h same =
     let queue : List Ticketed = first ∷ rest in
-    formed_keeps state s.story s.segments.immutable s.segments.active.batches s.segments.active.logs queue (drop (next_size queue) queue) (next_batches queue) (wants_sync (next_batches queue)) (stopping s)
-    (take (next_size queue) (tickets_of queue)) s.numbers.next_file none (ops_split (next_size queue) queue) h
+    formed_keeps s.segments.active.log state s.levels s.story s.segments.immutable s.segments.active.batches queue (drop (next_size queue) queue) (next_batches queue) (is_full s) (wants_sync (next_batches queue)) (stopping s)
+    (take (next_size queue) (tickets_of queue)) s.numbers.next_file s.numbers.in_tables none (ops_split (next_size queue) queue) h
 
 none_stands : (s : State) → first_some (rests_before_group s) ≡ None → stopping s ≡ None
 none_stands s h = none_mapped (turned_away s) (stopping s) (none_of (rests_before_group s) h).1.0
 
 running_keeps : (state : Disk) (running : Option Group) (s : State) → first_some (rests_of s running) ≡ None
-    → HoldsBy s.segments.active.logs state s.story s.segments.immutable s.segments.active.batches s.writing.waiting (stopping s) running s.numbers.next_file
+    → HoldsBy s.segments.active.log state s.levels s.story s.segments.immutable s.segments.active.batches s.writing.waiting (stopping s) running s.numbers.next_file s.numbers.in_tables
     → IsStored state s → IsStored state (started_or running s)
 running_keeps state None s none h same = started_keeps state s.writing.waiting s (none_stands s none) h same
 running_keeps state (Some group) s none h same = same
@@ -100,9 +94,9 @@ ready_keeps state s held none h = running_keeps state s.jobs.write.running s (in
 
 -- ---- the number of a log that is made is below the end
 
-below_planned : (has_log sync : Bool) (number : ℕ) (later : List Act) → group_plan has_log sync ≡ MakeLog ∷ later → (not has_log && nat_le (2 ^ 56) number) ≡ false → number < 2 ^ 56
-below_planned false sync number later plan h = leb-false (2 ^ 56) number h
-below_planned true sync number later plan h = cc
+not_planned : (switches sync : Bool) (later : List Act) → group_plan switches sync ≡ MakeLog ∷ later → ⊥
+not_planned false sync later plan = cc
+not_planned true sync later plan = cc
 
 same_group : (made group : Group) → Some made ≡ Some group → made ≡ group
 same_group made group e = cc
@@ -113,19 +107,17 @@ below_drawn left later number e h =
     leb-false (2 ^ 56) number (rw drawn at h)
 
 below_first : (waiting : List Ticketed) (s : State) (group : Group) (later : List Act) → (length waiting == 0) ≡ false
-    → (not (is_some (active_log s)) && is_file_spent s) ≡ false
-    → (started waiting s).jobs.write.running ≡ Some group → left_of group ≡ MakeLog ∷ later → s.numbers.next_file < 2 ^ 56
-below_first [] s group later some h runs left = cc
-below_first (first ∷ rest) s group later some h runs left =
+    → (started waiting s).jobs.write.running ≡ Some group → left_of group ≡ MakeLog ∷ later → ⊥
+below_first [] s group later some runs left = cc
+below_first (first ∷ rest) s group later some runs left =
     let is = same_group (formed (first ∷ rest) s) group runs in
-    below_planned (is_some (active_log s)) (wants_sync (next_batches (first ∷ rest))) s.numbers.next_file later (ap left_of is ∙ left) h
+    not_planned (is_full s) (wants_sync (next_batches (first ∷ rest))) later (ap left_of is ∙ left)
 
 below_in : (running : Option Group) (s : State) (group : Group) (later : List Act) → first_some (rests_of s running) ≡ None
     → (started_or running s).jobs.write.running ≡ Some group → running ≡ s.jobs.write.running → left_of group ≡ MakeLog ∷ later → s.numbers.next_file < 2 ^ 56
 below_in None s group later h runs same left =
     let tests = none_of (rests_before_group s) h in
-    below_first s.writing.waiting s group later (none_when (is_nobody_waiting s) Idle tests.0)
-    (none_when (not (is_some (active_log s)) && is_file_spent s) (Spent FileNumber) tests.1.1.1.0) runs left
+    absurd (below_first s.writing.waiting s group later (none_when (is_nobody_waiting s) Idle tests.0) runs left)
 below_in (Some made) s group later h runs same left =
     let is = same_group made group (same ∙ runs) in
     below_drawn (left_of made) later s.numbers.next_file (ap left_of is ∙ left)
@@ -138,39 +130,26 @@ number_below s held group later none runs left = below_in s.jobs.write.running s
 -- ---- the order of batches that wait
 
 -- the order alone is changed
-reordered : (logs : List SegmentLog) (state : Disk) (story : Story) (immutable : List Segment) (own : List (List Op)) (waiting next : List Ticketed) (stops : Option Failure) (running : Option Group) (next_file : ℕ)
-    → (AreOnTheirWay story running waiting → AreOnTheirWay story running next) → HoldsBy logs state story immutable own waiting stops running next_file
-    → HoldsBy logs state story immutable own next stops running next_file
-reordered [] state story immutable own waiting next stops running next_file keep h = record {
+reordered : (o : Option SegmentLog) (state : Disk) (levels : List TableFile) (story : Story) (immutable : List Segment) (own : List (List Op)) (waiting next : List Ticketed) (stops : Option Failure) (running : Option Group)
+    (next_file in_tables : ℕ) → (AreOnTheirWay story running waiting → AreOnTheirWay story running next) → HoldsBy o state levels story immutable own waiting stops running next_file in_tables
+    → HoldsBy o state levels story immutable own next stops running next_file in_tables
+reordered None state levels story immutable own waiting next stops running next_file in_tables keep h = h
+reordered (Some log) state levels story immutable own waiting next stops running next_file in_tables keep h = record {
+  ways = h.ways;
   place = h.place;
-  least = h.least;
-  full = h.full;
-  are_full = h.are_full;
-  none = h.none;
-  keeps = h.keeps;
-  next = h.next;
-  order = by stops h.order;
-}
-  where
-    by : (stops : Option Failure) → UnlessStopped stops running (AllWhole h.full state × AtMaking state story next_file h.least h.full running × AreOnTheirWay story running waiting)
-        → UnlessStopped stops running (AllWhole h.full state × AtMaking state story next_file h.least h.full running × AreOnTheirWay story running next)
-    by None order = (order.0, order.1, keep order.2)
-    by (Some failure) order = order
-reordered (log ∷ logs) state story immutable own waiting next stops running next_file keep h = record {
-  place = h.place;
-  least = h.least;
   full = h.full;
   are_full = h.are_full;
   own = h.own;
   number_is = h.number_is;
   batches_are = h.batches_are;
   keeps = h.keeps;
-  next = h.next;
+  reach = h.reach;
+  tables_to = h.tables_to;
   order = by stops h.order;
 }
   where
-    by : (stops : Option Failure) → UnlessStopped stops running (CanGrow h.full h.own log.size state × AtWriting story running × AreOnTheirWay story running waiting)
-        → UnlessStopped stops running (CanGrow h.full h.own log.size state × AtWriting story running × AreOnTheirWay story running next)
+    by : (stops : Option Failure) → UnlessStopped stops running (CanGrow h.full h.own log.size state × IsAt state story next_file h.own running × AreOnTheirWay story running waiting)
+        → UnlessStopped stops running (CanGrow h.full h.own log.size state × IsAt state story next_file h.own running × AreOnTheirWay story running next)
     by None order = (order.0, order.1, keep order.2)
     by (Some failure) order = order
 
@@ -181,10 +160,10 @@ front_order last limbo group waiting h =
     let front = front_batches last (limbo ++ group) waiting (subst (AreBatches last) (sym (append_assoc limbo group waiting)) h) in
     subst (λ (l : List (List Op)). AreBatches last (limbo ++ l)) (sym (append-nil group)) front
 
-pub turned_keeps : (logs : List SegmentLog) (state : Disk) (story : Story) (immutable : List Segment) (own : List (List Op)) (waiting : List Ticketed) (stops : Option Failure) (running : Option Group) (next_file : ℕ)
-    → HoldsBy logs state story immutable own waiting stops running next_file → HoldsBy logs state story immutable own [] stops running next_file
-turned_keeps logs state story immutable own waiting stops running next_file h =
-    reordered logs state story immutable own waiting [] stops running next_file
+pub turned_keeps : (o : Option SegmentLog) (state : Disk) (levels : List TableFile) (story : Story) (immutable : List Segment) (own : List (List Op)) (waiting : List Ticketed) (stops : Option Failure) (running : Option Group) (next_file in_tables : ℕ)
+    → HoldsBy o state levels story immutable own waiting stops running next_file in_tables → HoldsBy o state levels story immutable own [] stops running next_file in_tables
+turned_keeps o state levels story immutable own waiting stops running next_file in_tables h =
+    reordered o state levels story immutable own waiting [] stops running next_file in_tables
     (λ order. front_order (point_of story).seq story.limbo (ops_of (batches_of_group running)) (ops_waiting waiting) order) h
 
 -- a batch is queued
@@ -210,15 +189,15 @@ queued_order last limbo group waiting batch limits most h =
     append_assoc limbo (group ++ waiting) (batch.ops ∷ []) ∙ ap (λ (l : List (List Op)). limbo ++ l) (append_assoc group waiting (batch.ops ∷ [])) in
     subst (AreBatches last) e whole
 
-pub queued_keeps : (logs : List SegmentLog) (state : Disk) (story : Story) (immutable : List Segment) (own : List (List Op)) (waiting : List Ticketed) (stops : Option Failure) (running : Option Group)
-    (next_file ticket : ℕ) (batch : Batch) → IsWithinLimits batch
+pub queued_keeps : (o : Option SegmentLog) (state : Disk) (levels : List TableFile) (story : Story) (immutable : List Segment) (own : List (List Op)) (waiting : List Ticketed) (stops : Option Failure) (running : Option Group)
+    (next_file in_tables ticket : ℕ) (batch : Batch) → IsWithinLimits batch
     → (point_of story).seq + (count_ops story.limbo + count_ops (ops_of (batches_of_group running)) + count_ops (ops_waiting waiting)) + length batch.ops ≤ 2 ^ 56
-    → HoldsBy logs state story immutable own waiting stops running next_file
-    → HoldsBy logs state story immutable own (waiting ++ (record { ticket = ticket; batch = batch }) ∷ []) stops running next_file
-queued_keeps logs state story immutable own waiting stops running next_file ticket batch limits most h =
+    → HoldsBy o state levels story immutable own waiting stops running next_file in_tables
+    → HoldsBy o state levels story immutable own (waiting ++ (record { ticket = ticket; batch = batch }) ∷ []) stops running next_file in_tables
+queued_keeps o state levels story immutable own waiting stops running next_file in_tables ticket batch limits most h =
     let last = (point_of story).seq in
     let group = ops_of (batches_of_group running) in
     let member : Ticketed = record { ticket = ticket; batch = batch } in
     let e : ops_waiting (waiting ++ member ∷ []) ≡ ops_waiting waiting ++ batch.ops ∷ [] = map-append (λ (m : Ticketed). m.batch.ops) waiting (member ∷ []) in
-    reordered logs state story immutable own waiting (waiting ++ member ∷ []) stops running next_file
+    reordered o state levels story immutable own waiting (waiting ++ member ∷ []) stops running next_file in_tables
     (λ order. subst (λ (l : List (List Op)). AreBatches last (story.limbo ++ (group ++ l))) (sym e) (queued_order last story.limbo group (ops_waiting waiting) batch limits most order)) h

@@ -1,115 +1,61 @@
--- What a write step leaves of the mode, the footing and the next file's number.
-use Rattle.std.proofs.Common.{◌≡◌, ◌≤◌, List, [], ◌∷◌, Option, Some, None, refl, arith}
+-- What steps leave of the mode, the footing and the next file's number.
+use Rattle.std.proofs.Common.{◌≡◌, ℕ, ◌≤◌, List, [], ◌∷◌, Option, Some, None, refl, ◌∙◌, arith}
 use Rattle.keel_base.specs.declared.failure.Failure.{Failure}
 use Rattle.keel_group.specs.Queue.{Ticketed}
-use Rattle.keel_machine.specs.States.{State, Group, Act, MakeLog, SyncDirectory, AddRecords, SyncLog, left_of}
+use Rattle.keel_machine.specs.States.{State, Group, Act, CloseLog, MakeLog, SyncDirectory, AddRecords, SyncLog, left_of}
 use Rattle.keel_machine.specs.Writing.{started, started_or}
-use Rattle.keel_machine.specs.WritingAfter.{first_done, group_done, first_failed, group_failed}
+use Rattle.keel_machine.specs.WritingAfter.{switched, first_done, group_done, first_failed, group_failed}
 
--- ---- the store stays open
+-- the store is as open, on the same footing, its next file's number doesn't fall, and its boot is as it was
+pub record IsUnmoved (s next : State) : Type 0 where
+  pub mode : next.mode ≡ s.mode
+  pub footing : next.footing ≡ s.footing
+  pub files : s.numbers.next_file ≤ next.numbers.next_file
+  pub resume : next.jobs.resume.running ≡ s.jobs.resume.running
 
-pub mode_started : (waiting : List Ticketed) (s : State) → (started waiting s).mode ≡ s.mode
-mode_started [] s = refl
-mode_started (first ∷ rest) s = refl
+pub unmoved : (s : State) → IsUnmoved s s
+unmoved s = record { mode = refl; footing = refl; files = omega arith; resume = refl }
 
-pub mode_started_or : (running : Option Group) (s : State) → (started_or running s).mode ≡ s.mode
-mode_started_or None s = mode_started s.writing.waiting s
-mode_started_or (Some group) s = refl
+pub unmoved_on : (s middle next : State) → IsUnmoved s middle → IsUnmoved middle next → IsUnmoved s next
+unmoved_on s middle next h k = record { mode = k.mode ∙ h.mode; footing = k.footing ∙ h.footing; files = omega (arith, h.files, k.files); resume = k.resume ∙ h.resume }
 
-pub mode_first_done : (group : Group) (left : List Act) (s : State) → (first_done group left s).mode ≡ s.mode
-mode_first_done group [] s = refl
-mode_first_done group (MakeLog ∷ []) s = refl
-mode_first_done group (MakeLog ∷ next ∷ later) s = refl
-mode_first_done group (SyncDirectory ∷ []) s = refl
-mode_first_done group (SyncDirectory ∷ next ∷ later) s = refl
-mode_first_done group (AddRecords ∷ []) s = refl
-mode_first_done group (AddRecords ∷ next ∷ later) s = refl
-mode_first_done group (SyncLog ∷ []) s = refl
-mode_first_done group (SyncLog ∷ next ∷ later) s = refl
+unmoved_started : (waiting : List Ticketed) (s : State) → IsUnmoved s (started waiting s)
+unmoved_started [] s = unmoved s
+unmoved_started (first ∷ rest) s = record { mode = refl; footing = refl; files = omega arith; resume = refl }
 
-pub mode_done : (running : Option Group) (s : State) → (group_done running s).mode ≡ s.mode
-mode_done None s = refl
-mode_done (Some group) s = mode_first_done group (left_of group) s
+pub unmoved_ready : (running : Option Group) (s : State) → IsUnmoved s (started_or running s)
+unmoved_ready None s = unmoved_started s.writing.waiting s
+unmoved_ready (Some group) s = unmoved s
 
-pub mode_first_failed : (group : Group) (left : List Act) (failure : Failure) (s : State) → (first_failed group left failure s).mode ≡ s.mode
-mode_first_failed group [] failure s = refl
-mode_first_failed group (MakeLog ∷ later) failure s = refl
-mode_first_failed group (SyncDirectory ∷ later) failure s = refl
-mode_first_failed group (AddRecords ∷ later) failure s = refl
-mode_first_failed group (SyncLog ∷ later) failure s = refl
+unmoved_switched : (drawn : Option ℕ) (s : State) → IsUnmoved s (switched drawn s)
+unmoved_switched None s = unmoved s
+unmoved_switched (Some number) s = record { mode = refl; footing = refl; files = omega arith; resume = refl }
 
-pub mode_failed : (running : Option Group) (failure : Failure) (s : State) → (group_failed running failure s).mode ≡ s.mode
-mode_failed None failure s = refl
-mode_failed (Some group) failure s = mode_first_failed group (left_of group) failure s
+unmoved_first_done : (group : Group) (left : List Act) (s : State) → IsUnmoved s (first_done group left s)
+unmoved_first_done group [] s = unmoved s
+unmoved_first_done group (CloseLog ∷ []) s = record { mode = refl; footing = refl; files = omega arith; resume = refl }
+unmoved_first_done group (CloseLog ∷ next ∷ later) s = record { mode = refl; footing = refl; files = omega arith; resume = refl }
+unmoved_first_done group (MakeLog ∷ []) s = record { mode = refl; footing = refl; files = omega arith; resume = refl }
+unmoved_first_done group (MakeLog ∷ next ∷ later) s = record { mode = refl; footing = refl; files = omega arith; resume = refl }
+unmoved_first_done group (SyncDirectory ∷ []) s = let h = unmoved_switched group.progress.log s in record { mode = h.mode; footing = h.footing; files = h.files; resume = h.resume }
+unmoved_first_done group (SyncDirectory ∷ next ∷ later) s = let h = unmoved_switched group.progress.log s in record { mode = h.mode; footing = h.footing; files = h.files; resume = h.resume }
+unmoved_first_done group (AddRecords ∷ []) s = record { mode = refl; footing = refl; files = omega arith; resume = refl }
+unmoved_first_done group (AddRecords ∷ next ∷ later) s = record { mode = refl; footing = refl; files = omega arith; resume = refl }
+unmoved_first_done group (SyncLog ∷ []) s = record { mode = refl; footing = refl; files = omega arith; resume = refl }
+unmoved_first_done group (SyncLog ∷ next ∷ later) s = record { mode = refl; footing = refl; files = omega arith; resume = refl }
 
--- on the same footing
+pub unmoved_done : (running : Option Group) (s : State) → IsUnmoved s (group_done running s)
+unmoved_done None s = unmoved s
+unmoved_done (Some group) s = unmoved_first_done group (left_of group) s
 
-pub footing_started : (waiting : List Ticketed) (s : State) → (started waiting s).footing ≡ s.footing
-footing_started [] s = refl
-footing_started (first ∷ rest) s = refl
+unmoved_first_failed : (group : Group) (left : List Act) (failure : Failure) (s : State) → IsUnmoved s (first_failed group left failure s)
+unmoved_first_failed group [] failure s = unmoved s
+unmoved_first_failed group (CloseLog ∷ later) failure s = record { mode = refl; footing = refl; files = omega arith; resume = refl }
+unmoved_first_failed group (MakeLog ∷ later) failure s = record { mode = refl; footing = refl; files = omega arith; resume = refl }
+unmoved_first_failed group (SyncDirectory ∷ later) failure s = record { mode = refl; footing = refl; files = omega arith; resume = refl }
+unmoved_first_failed group (AddRecords ∷ later) failure s = record { mode = refl; footing = refl; files = omega arith; resume = refl }
+unmoved_first_failed group (SyncLog ∷ later) failure s = record { mode = refl; footing = refl; files = omega arith; resume = refl }
 
-pub footing_started_or : (running : Option Group) (s : State) → (started_or running s).footing ≡ s.footing
-footing_started_or None s = footing_started s.writing.waiting s
-footing_started_or (Some group) s = refl
-
-pub footing_first_done : (group : Group) (left : List Act) (s : State) → (first_done group left s).footing ≡ s.footing
-footing_first_done group [] s = refl
-footing_first_done group (MakeLog ∷ []) s = refl
-footing_first_done group (MakeLog ∷ next ∷ later) s = refl
-footing_first_done group (SyncDirectory ∷ []) s = refl
-footing_first_done group (SyncDirectory ∷ next ∷ later) s = refl
-footing_first_done group (AddRecords ∷ []) s = refl
-footing_first_done group (AddRecords ∷ next ∷ later) s = refl
-footing_first_done group (SyncLog ∷ []) s = refl
-footing_first_done group (SyncLog ∷ next ∷ later) s = refl
-
-pub footing_done : (running : Option Group) (s : State) → (group_done running s).footing ≡ s.footing
-footing_done None s = refl
-footing_done (Some group) s = footing_first_done group (left_of group) s
-
-pub footing_first_failed : (group : Group) (left : List Act) (failure : Failure) (s : State) → (first_failed group left failure s).footing ≡ s.footing
-footing_first_failed group [] failure s = refl
-footing_first_failed group (MakeLog ∷ later) failure s = refl
-footing_first_failed group (SyncDirectory ∷ later) failure s = refl
-footing_first_failed group (AddRecords ∷ later) failure s = refl
-footing_first_failed group (SyncLog ∷ later) failure s = refl
-
-pub footing_failed : (running : Option Group) (failure : Failure) (s : State) → (group_failed running failure s).footing ≡ s.footing
-footing_failed None failure s = refl
-footing_failed (Some group) failure s = footing_first_failed group (left_of group) failure s
-
--- ---- the next file's number never falls
-
-pub files_started : (waiting : List Ticketed) (s : State) → (started waiting s).numbers.next_file ≡ s.numbers.next_file
-files_started [] s = refl
-files_started (first ∷ rest) s = refl
-
-pub files_started_or : (running : Option Group) (s : State) → (started_or running s).numbers.next_file ≡ s.numbers.next_file
-files_started_or None s = files_started s.writing.waiting s
-files_started_or (Some group) s = refl
-
-pub files_first_done : (group : Group) (left : List Act) (s : State) → s.numbers.next_file ≤ (first_done group left s).numbers.next_file
-files_first_done group [] s = omega arith
-files_first_done group (MakeLog ∷ []) s = omega arith
-files_first_done group (MakeLog ∷ next ∷ later) s = omega arith
-files_first_done group (SyncDirectory ∷ []) s = omega arith
-files_first_done group (SyncDirectory ∷ next ∷ later) s = omega arith
-files_first_done group (AddRecords ∷ []) s = omega arith
-files_first_done group (AddRecords ∷ next ∷ later) s = omega arith
-files_first_done group (SyncLog ∷ []) s = omega arith
-files_first_done group (SyncLog ∷ next ∷ later) s = omega arith
-
-pub files_done : (running : Option Group) (s : State) → s.numbers.next_file ≤ (group_done running s).numbers.next_file
-files_done None s = omega arith
-files_done (Some group) s = files_first_done group (left_of group) s
-
-pub files_first_failed : (group : Group) (left : List Act) (failure : Failure) (s : State) → s.numbers.next_file ≤ (first_failed group left failure s).numbers.next_file
-files_first_failed group [] failure s = omega arith
-files_first_failed group (MakeLog ∷ later) failure s = omega arith
-files_first_failed group (SyncDirectory ∷ later) failure s = omega arith
-files_first_failed group (AddRecords ∷ later) failure s = omega arith
-files_first_failed group (SyncLog ∷ later) failure s = omega arith
-
-pub files_failed : (running : Option Group) (failure : Failure) (s : State) → s.numbers.next_file ≤ (group_failed running failure s).numbers.next_file
-files_failed None failure s = omega arith
-files_failed (Some group) failure s = files_first_failed group (left_of group) failure s
+pub unmoved_failed : (running : Option Group) (failure : Failure) (s : State) → IsUnmoved s (group_failed running failure s)
+unmoved_failed None failure s = unmoved s
+unmoved_failed (Some group) failure s = unmoved_first_failed group (left_of group) failure s

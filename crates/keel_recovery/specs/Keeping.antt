@@ -1,57 +1,39 @@
--- What an open store keeps of its device, so that each crash leaves a prefix of its story.
-use Rattle.std.specs.Prelude.{◌≡◌, ◌⊎◌, ℕ, ◌<◌, ◌≤◌, List, [], ◌∷◌, ◌++◌, length, take, drop}
-use Rattle.std.specs.List.{AllByRecursion}
-use Rattle.keel_base.specs.Points.{Point, fold_batches}
-use Rattle.keel_base.specs.declared.file_name.FileName.TheVariants.{Log}
-use Rattle.keel_disk.specs.Directory.{Named}
-use Rattle.keel_disk.specs.State.{State, file_at}
-use Rattle.keel_disk.specs.Steady.{Always, IsSteady, IsAbsent, IsHeld, AllRead}
-use Rattle.keel_machine.specs.States.{Story}
-use Rattle.keel_reading.specs.Answers.{IsLog}
-use Rattle.keel_reading.specs.Logs.{log_bytes}
-use Rattle.keel_reading.specs.Reading.{ReadsBelow}
+-- What a store whose boot has cleared keeps of its device, so that each crash leaves a prefix of its story.
+use Rattle.std.specs.Prelude.{◌≡◌, ℕ, ◌<◌, ◌≤◌, List, ◌++◌, length, drop, Some}
+use Rattle.keel_base.specs.declared.file_name.FileName.{FileName}
 use Rattle.keel_batch.specs.Batches.{AreBatches}
-use Rattle.keel_recovery.specs.Chains.{Chained, batches_of, FollowOn, AreChained, OthersEmpty}
+use Rattle.keel_directory.specs.TableFiles.{TableFile}
+use Rattle.keel_disk.specs.State.{State}
+use Rattle.keel_disk.specs.Steady.{AllRead, file_behind}
+use Rattle.keel_machine.specs.States.{Story, entries_in}
+use Rattle.keel_open.specs.NextFiles.{number_in}
+use Rattle.keel_recovery.specs.Chains.{Chained, batches_of, FollowOn, AreChained}
+use Rattle.keel_recovery.specs.Roots.{Way, AllGo, AllRoots, Say, AreFirmTables, point_at}
 
--- ---- what was there before the store's own logs
-
--- whatever operations are done the log is there, firm in whole, with these bytes; or it isn't there, and there are none
-abbrev pub IsFirmLog : ℕ → List ℕ → State → Type 0
-IsFirmLog number bytes state =
-    ((file : ℕ) × IsSteady (Log number) file state × IsHeld (file_at file state.files) bytes) ⊎ (IsAbsent (Log number) state × (bytes ≡ []))
-
--- each file is a log
-abbrev pub AreLogs : {V : Type 0} → Named V → Type 0
-AreLogs [] = Unit {0}
-AreLogs (entry ∷ rest) = IsLog entry.0 × AreLogs rest
-
--- Whatever operations are done, there are logs alone, and those numbered below that number are firm and read as the point.
-pub record IsBase (least : ℕ) (point : Point) (state : State) : Type 0 where
-  pub held : Named (List ℕ)
-  pub reads : ReadsBelow least held point
-  pub firm : (number : ℕ) → number < least → IsFirmLog number (log_bytes number held) state
-  pub alone : Always AreLogs state
-
--- ---- the store's own logs
-
--- the point behind the first so many batches of a story
-abbrev pub point_at : ℕ → Story → Point
-point_at count story = fold_batches story.start (take count (story.log ++ story.limbo))
-
--- Logs from that number on hold the story's batches from a place on, each within its limits.
-pub record HoldStory (place least : ℕ) (logs : List Chained) (story : Story) (state : State) : Type 0 where
-  pub least_is : AllByRecursion (λ (log : Chained). least ≤ log.number) logs
+-- These logs hold the story's batches from a place on, each within its limits.
+pub record HoldStory (place : ℕ) (logs : List Chained) (story : Story) (state : State) : Type 0 where
   pub in_turn : FollowOn place (point_at place story).seq logs
   pub batches_are : drop place (story.log ++ story.limbo) ≡ batches_of logs
   pub limits : AreBatches (point_at place story).seq (batches_of logs)
   pub place_within : place ≤ length story.log
   pub floor_within : story.floor ≤ length story.log
   pub chained : AreChained story.floor (length story.log) logs state
-  pub others : OthersEmpty least logs state
 
--- The directory reads as the point at a place of the story, but for logs from a number on, which hold the rest of it; and
--- reads give what was meant.
-pub record Keeps (place least : ℕ) (logs : List Chained) (story : Story) (state : State) : Type 0 where
-  pub base : IsBase least (point_at place story) state
-  pub stored : HoldStory place least logs story state
+-- each name of each directory is numbered below the next file
+abbrev pub AreDrawn : ℕ → State → Type 0
+AreDrawn next_file state = (count file : ℕ) (name : FileName) → file_behind count name state ≡ Some file → number_in name < next_file
+
+-- The tables in use are firm, and say what the story says at a place.
+pub record AreLive (place : ℕ) (levels : List TableFile) (story : Story) (state : State) : Type 0 where
+  pub firm : AreFirmTables state (entries_in levels) levels
+  pub say : Say (point_at place story).seq levels (point_at place story)
+
+-- CURRENT names one of these ways, each of which leads to a place of the story that the logs go on from; and reads give
+-- what was meant.
+pub record Keeps (ways : List Way) (place : ℕ) (logs : List Chained) (levels : List TableFile) (story : Story) (next_file : ℕ) (state : State) : Type 0 where
+  pub go : AllGo ways state
+  pub roots : AllRoots ways logs story next_file state
+  pub live : AreLive place levels story state
+  pub stored : HoldStory place logs story state
+  pub drawn : AreDrawn next_file state
   pub read : AllRead state

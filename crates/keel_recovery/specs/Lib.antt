@@ -1,9 +1,14 @@
 pub mod Standing
-pub mod Batches
 pub mod Chains
+pub mod Roots
 pub mod Keeping
-pub mod Calls
-pub mod Crashing
+pub mod Booting
 pub mod Laws
+pub mod BootLaws
+pub mod BootCalls
+pub mod Calls
+pub mod BootTurns
+pub mod BootRoll
+pub mod Crashing
 pub mod Machine
 pub mod Worked

@@ -6,66 +6,82 @@ use Rattle.keel_base.specs.declared.memory.OutOfMemory.{OutOfMemory}
 use Rattle.keel_base.specs.declared.op.Batch.{Batch}
 use Rattle.keel_base.specs.declared.op.Op.{Op}
 use Rattle.keel_batch.specs.Batches.{AreBatches}
+use Rattle.keel_directory.specs.Reading.{Reading, IsReading, new, held, refused}
+use Rattle.keel_directory.specs.Sound.{IsSoundReading}
+use Rattle.keel_directory.specs.Standing.{ReadsAs}
+use Rattle.keel_directory.specs.TableFiles.{TableFile}
 use Rattle.keel_disk.specs.declared.change.Change.{Change}
-use Rattle.keel_disk.specs.State.{State as Disk, directory_read}
+use Rattle.keel_disk.specs.State.{State as Disk}
 use Rattle.keel_disk.specs.Plain.{image_read}
 use Rattle.keel_disk.specs.Told.{Told, Crashes}
 use Rattle.keel_disk.specs.Sound.{IsOneToOne, IsAtRest}
 use Rattle.keel_disk.specs.Steady.{CutsExist}
-use Rattle.keel_reading.specs.declared.refusal.OpenRefusal.{OpenRefusal}
-use Rattle.keel_reading.specs.declared.refusal.OpenRefusal.TheVariants as refusal
-use Rattle.keel_reading.specs.Answers.{AreNames}
-use Rattle.keel_reading.specs.Reading.{Reads}
+use Rattle.keel_open.specs.declared.refusal.OpenRefusal.{OpenRefusal}
+use Rattle.keel_open.specs.declared.refusal.OpenRefusal.TheVariants as refusal
 use Rattle.keel_disk.specs.declared.rule.Arranged.TheVariants as arranged
 use Rattle.keel_disk.specs.declared.rule.Pick.{Pick}
 use Rattle.keel_disk.specs.Seen.{Seen, IsArranged}
 use Rattle.keel_machine.specs.Admission.{ops_of, batches_of_group, stopping}
 use Rattle.keel_machine.specs.Crash.{CrashAnswers, has_story}
-use Rattle.keel_machine.specs.Opening.{OpenAnswers, continues}
+use Rattle.keel_base.specs.declared.options.Options.{Options}
+use Rattle.keel_machine.specs.Opening.{Found, OpenAnswers, continues, opened}
+use Rattle.keel_machine.specs.Reads.{BearsOut}
 use Rattle.keel_group.specs.Queue.{Ticketed}
-use Rattle.keel_machine.specs.States.{State, Footing, Known, Unknown, Mode, is_open, is_left, unopened, Story, SegmentLog, Segment, Segments, Group, Act, MakeLog, SyncDirectory, AddRecords, SyncLog, left_of, point_of}
+use Rattle.keel_machine.specs.States.{State, Footing, Known, Unknown, Mode, Phase, Shut, Booting, Open, is_open, is_left, unopened, Story, SegmentLog, Segment, Segments, Numbers, Group, Act, CloseLog, MakeLog, SyncDirectory, AddRecords, SyncLog, left_of, point_of}
+use Rattle.keel_machine.specs.declared.steps.ResumeStep.{ResumeStep}
+use Rattle.keel_machine.specs.declared.steps.ResumeStep.TheVariants as resume_step
 use Rattle.keel_machine.specs.declared.steps.WriteStep.{WriteStep}
 use Rattle.keel_machine.specs.declared.steps.WriteStep.TheVariants as step
-use Rattle.keel_machine.specs.Turns.{Event, Opening, Writing, Listing, Crashing, Finishing, Turn}
+use Rattle.keel_machine.specs.Turns.{Event, Opening, Writing, Resuming, Listing, Crashing, Finishing, Turn}
 use Rattle.keel_machine.specs.Writing.{ready, change_of}
 use Rattle.keel_machine.specs.WritingAfter.{MadeCall, call_done, call_failed, failure_of}
-use Rattle.keel_recovery.specs.Calls.{IsNewLog, IsNext, AllWhole, CanGrow}
-use Rattle.keel_recovery.specs.Chains.{Chained}
-use Rattle.keel_recovery.specs.Crashing.{IsAfterCrash, InsideCall}
+use Rattle.keel_resume.specs.Drafts.{Draft}
+use Rattle.keel_recovery.specs.BootCalls.{BootKept}
+use Rattle.keel_recovery.specs.BootLaws.{IsAfterCrash}
+use Rattle.keel_recovery.specs.Calls.{IsNewLog, AllReach, CanGrow}
+use Rattle.keel_recovery.specs.Chains.{Chained, IsWholeLog}
+use Rattle.keel_recovery.specs.Crashing.{InsideCall}
 use Rattle.keel_recovery.specs.Keeping.{Keeps}
+use Rattle.keel_recovery.specs.Roots.{Way, point_at}
 use Rattle.keel_recovery.specs.Standing.{Stands}
 
 -- what a caller may ask: a store is opened where none is open, and the other calls are those of an open one, but for
 -- crashes and listings
 abbrev pub MayCall : State → Event → Type 0
-MayCall s (Opening answer) = is_open s.mode.phase ≡ false
+MayCall s (Opening options answer) = is_open s.mode.phase ≡ false
 MayCall s (Listing answer) = Unit {0}
 MayCall s (Crashing pick kept) = Unit {0}
 MayCall s Finishing = ⊥
 MayCall s event = is_open s.mode.phase ≡ true
 
--- the device tells its state, which is at rest
+-- a reading is sound, where it isn't a refusal
+abbrev pub IsSoundIfRead : Reading → Type 0
+IsSoundIfRead new = Unit {0}
+IsSoundIfRead (held found point) = IsSoundReading (held found point)
+IsSoundIfRead (refused refusal) = Unit {0}
+
+-- the device is at rest, and its directory reads as a sound store, or is refused
+pub record IsFirst (state : Disk) : Type 0 where
+  pub at_rest : IsAtRest state
+  pub sound : (reading : Reading) → IsReading (image_read state) reading → IsSoundIfRead reading
+
+-- the device tells its state, which is so
 abbrev pub RestsIn : Option Told → Type 0
 RestsIn None = ⊥
-RestsIn (Some told) = IsAtRest told.state
+RestsIn (Some told) = IsFirst told.state
 
 -- the device tells its state, which stands for the story
 abbrev pub StandsIn : Option Told → Story → Type 0
 StandsIn None story = ⊥
 StandsIn (Some told) story = Stands told.state story
 
--- ---- what an open store keeps
-
--- the first of these logs is the segment's, and holds its batches; where it has none, it has no batch
-abbrev pub IsFull : List SegmentLog → List (List Op) → List Chained → (List Chained → Type 0) → Type 0
-IsFull [] batches full Rest = (batches ≡ []) × Rest full
-IsFull (log ∷ logs) batches [] Rest = ⊥
-IsFull (log ∷ logs) batches (own ∷ full) Rest = (own.number ≡ log.number) × (own.batches ≡ batches) × Rest full
+-- ---- what a store that writes keeps
 
 -- these are the logs of the full segments
 abbrev pub AreFull : List Segment → List Chained → Type 0
-AreFull [] full = full ≡ []
-AreFull (segment ∷ rest) full = IsFull segment.logs segment.batches full (AreFull rest)
+AreFull [] [] = Unit {0}
+AreFull (segment ∷ rest) (own ∷ full) = (segment.logs ≡ own.number ∷ []) × (own.batches ≡ segment.batches) × AreFull rest full
+AreFull _ _ = ⊥
 
 -- the calls of a group from its append on
 abbrev pub calls_from_append : Bool → List Act
@@ -83,29 +99,22 @@ pub record AwaitsSync (batches : List Batch) (left : List Act) : Type 0 where
   pub left_is : left ≡ SyncLog ∷ []
 
 -- the group made a log that isn't the active segment's yet
-pub record HasMade (state : Disk) (number next_file least : ℕ) (full : List Chained) : Type 0 where
+pub record HasMade (state : Disk) (number next_file : ℕ) (own : Chained) : Type 0 where
   pub drawn : number < next_file
+  pub above : own.number < number
   pub new : IsNewLog number state
-  pub next : IsNext number least full
 
--- where a group is before the active segment has a log, by the log that it made
-abbrev pub MakesLog : Disk → Story → ℕ → ℕ → List Chained → Option ℕ → List Act → Type 0
-MakesLog state story next_file least full None left = AwaitsAppend story (MakeLog ∷ SyncDirectory ∷ []) left
-MakesLog state story next_file least full (Some number) left = AwaitsAppend story (SyncDirectory ∷ []) left × HasMade state number next_file least full
-
--- and once it has one
-abbrev pub WritesLog : Story → Option ℕ → List Batch → List Act → Type 0
-WritesLog story None batches left = AwaitsAppend story [] left ⊎ AwaitsSync batches left
-WritesLog story (Some number) batches left = ⊥
+-- Where a group is, by the log that it made: before its append or its sync, or where it changes the log.
+abbrev pub AtStage : Disk → Story → ℕ → Chained → Option ℕ → List Batch → List Act → Type 0
+AtStage state story next_file own None batches left =
+    (AwaitsAppend story [] left ⊎ AwaitsSync batches left)
+    ⊎ (AwaitsAppend story (CloseLog ∷ MakeLog ∷ SyncDirectory ∷ []) left ⊎ (AwaitsAppend story (MakeLog ∷ SyncDirectory ∷ []) left × IsWholeLog own state))
+AtStage state story next_file own (Some number) batches left = AwaitsAppend story (SyncDirectory ∷ []) left × HasMade state number next_file own × IsWholeLog own state
 
 -- without a group nothing is in limbo
-abbrev pub AtMaking : Disk → Story → ℕ → ℕ → List Chained → Option Group → Type 0
-AtMaking state story next_file least full None = story.limbo ≡ []
-AtMaking state story next_file least full (Some group) = MakesLog state story next_file least full group.progress.log (left_of group)
-
-abbrev pub AtWriting : Story → Option Group → Type 0
-AtWriting story None = story.limbo ≡ []
-AtWriting story (Some group) = WritesLog story group.progress.log group.batches (left_of group)
+abbrev pub IsAt : Disk → Story → ℕ → Chained → Option Group → Type 0
+IsAt state story next_file own None = story.limbo ≡ []
+IsAt state story next_file own (Some group) = AtStage state story next_file own group.progress.log group.batches (left_of group)
 
 abbrev pub ops_waiting : List Ticketed → List (List Op)
 ops_waiting waiting = map (λ (member : Ticketed). member.batch.ops) waiting
@@ -123,47 +132,40 @@ abbrev pub UnlessStopped : Option Failure → Option Group → Type 0 → Type 0
 UnlessStopped None running goes = goes
 UnlessStopped (Some failure) running goes = running ≡ None
 
--- The active segment has no log and no batch yet. While writes aren't stopped all logs are firm in whole.
-pub record NoLogYet (state : Disk) (story : Story) (immutable : List Segment) (batches : List (List Op)) (waiting : List Ticketed) (stops : Option Failure) (running : Option Group) (next_file : ℕ) : Type 0 where
+-- The logs hold the batches of the segments and what is in limbo. While writes aren't stopped the last one can be appended to.
+pub record HasLog (log : SegmentLog) (state : Disk) (levels : List TableFile) (story : Story) (immutable : List Segment) (batches : List (List Op)) (waiting : List Ticketed) (stops : Option Failure) (running : Option Group) (next_file in_tables : ℕ) : Type 0 where
+  pub ways : List Way
   pub place : ℕ
-  pub least : ℕ
-  pub full : List Chained
-  pub are_full : AreFull immutable full
-  pub none : batches ≡ []
-  pub keeps : Keeps place least full story state
-  pub next : IsNext next_file least full
-  pub order : UnlessStopped stops running (AllWhole full state × AtMaking state story next_file least full running × AreOnTheirWay story running waiting)
-
--- Its log holds its batches and what is in limbo. While writes aren't stopped it can be appended to.
-pub record HasLog (log : SegmentLog) (state : Disk) (story : Story) (immutable : List Segment) (batches : List (List Op)) (waiting : List Ticketed) (stops : Option Failure) (running : Option Group) (next_file : ℕ) : Type 0 where
-  pub place : ℕ
-  pub least : ℕ
   pub full : List Chained
   pub are_full : AreFull immutable full
   pub own : Chained
   pub number_is : own.number ≡ log.number
   pub batches_are : own.batches ≡ batches ++ story.limbo
-  pub keeps : Keeps place least (full ++ own ∷ []) story state
-  pub next : IsNext next_file least (full ++ own ∷ [])
-  pub order : UnlessStopped stops running (CanGrow full own log.size state × AtWriting story running × AreOnTheirWay story running waiting)
+  pub keeps : Keeps ways place (full ++ own ∷ []) levels story next_file state
+  pub reach : AllReach ways own.number
+  pub tables_to : (point_at place story).seq ≡ in_tables
+  pub order : UnlessStopped stops running (CanGrow full own log.size state × IsAt state story next_file own running × AreOnTheirWay story running waiting)
 
-abbrev pub HoldsBy : List SegmentLog → Disk → Story → List Segment → List (List Op) → List Ticketed → Option Failure → Option Group → ℕ → Type 0
-HoldsBy [] state story immutable batches waiting stops running next_file = NoLogYet state story immutable batches waiting stops running next_file
-HoldsBy (log ∷ logs) state story immutable batches waiting stops running next_file = HasLog log state story immutable batches waiting stops running next_file
+abbrev pub HoldsBy : Option SegmentLog → Disk → List TableFile → Story → List Segment → List (List Op) → List Ticketed → Option Failure → Option Group → ℕ → ℕ → Type 0
+HoldsBy None state levels story immutable batches waiting stops running next_file in_tables = ⊥
+HoldsBy (Some log) state levels story immutable batches waiting stops running next_file in_tables =
+    HasLog log state levels story immutable batches waiting stops running next_file in_tables
 
 -- what its logs hold, of the parts that it is about
-abbrev pub IsStoredIn : Disk → Story → Segments → List Ticketed → Option Failure → Option Group → ℕ → Type 0
-IsStoredIn state story segments waiting stops running next_file =
-    HoldsBy segments.active.logs state story segments.immutable segments.active.batches waiting stops running next_file
+abbrev pub IsStoredIn : Disk → List TableFile → Story → Segments → List Ticketed → Option Failure → Option Group → Numbers → Type 0
+IsStoredIn state levels story segments waiting stops running numbers =
+    HoldsBy segments.active.log state levels story segments.immutable segments.active.batches waiting stops running numbers.next_file numbers.in_tables
 
 abbrev pub IsStored : Disk → State → Type 0
-IsStored state s = IsStoredIn state s.story s.segments s.writing.waiting (stopping s) s.jobs.write.running s.numbers.next_file
+IsStored state s = IsStoredIn state s.levels s.story s.segments s.writing.waiting (stopping s) s.jobs.write.running s.numbers
 
--- the device of an open store: names and files go one to one, the next file has a number, and its logs hold the story
+-- The device of a store that writes: names and files go one to one, the next file has a number, and its logs hold the story. No
+-- boot runs.
 pub record IsKept (state : Disk) (s : State) : Type 0 where
   pub one_to_one : IsOneToOne state
   pub cuts : CutsExist state
   pub numbered : 1 ≤ s.numbers.next_file
+  pub none_boots : s.jobs.resume.running ≡ None
   pub stored : IsStored state s
 
 -- the device as a crash left it: at rest, and it stands for what is left of the story
@@ -172,17 +174,27 @@ pub record IsLeft (state : Disk) (story : Story) : Type 0 where
   pub after_crash : IsAfterCrash story
   pub stands : Stands state story
 
--- what is kept of an open store, of one that was left, and where there is no story
-abbrev pub KeptBy : Bool → Bool → Disk → State → Type 0
-KeptBy true left state s = IsKept state s
-KeptBy false true state s = IsLeft state s.story
-KeptBy false false state s = IsAtRest state
+-- the device of a store that boots
+pub record IsBootingStore (state : Disk) (s : State) : Type 0 where
+  pub one_to_one : IsOneToOne state
+  pub cuts : CutsExist state
+  pub kept : BootKept s state
+
+-- what is kept where no store is open: of one that was left, and where there is no story
+abbrev pub KeptShut : Bool → Disk → State → Type 0
+KeptShut true state s = IsLeft state s.story
+KeptShut false state s = IsFirst state
+
+abbrev pub KeptBy : Phase → Bool → Disk → State → Type 0
+KeptBy Open left state s = IsKept state s
+KeptBy Booting left state s = IsBootingStore state s
+KeptBy Shut left state s = KeptShut left state s
 
 -- a known device tells its state, and of it that is kept
 abbrev pub IsCoveredBy : Footing → Mode → Option Told → State → Type 0
 IsCoveredBy Unknown mode told s = Unit {0}
 IsCoveredBy Known mode None s = ⊥
-IsCoveredBy Known mode (Some told) s = KeptBy (is_open mode.phase) (is_left mode.left) told.state s
+IsCoveredBy Known mode (Some told) s = KeptBy mode.phase (is_left mode.left) told.state s
 
 abbrev pub IsCovered : State → Type 0
 IsCovered s = IsCoveredBy s.footing s.mode s.device.told s
@@ -196,6 +208,14 @@ TurnKeeps = (s next : State) (event : Event) → MayCall s event → Turn s even
 -- a covered device that is known stands for the story, once there is one
 abbrev pub CoveredStands : Type 0
 CoveredStands = (s : State) → s.footing ≡ Known → has_story s.mode ≡ true → IsCovered s → StandsIn s.device.told s.story
+
+-- an opening of a device at rest that stands for the story leaves a store that boots
+abbrev pub OpeningBoots : Type 0
+OpeningBoots =
+    (s : State) (options : Options) (found : Found) (device : Seen) (told : Told)
+    → s.device.told ≡ Some told → OpenAnswers s (Ok found) device → IsAtRest told.state
+    → IsAfterCrash (opened options found s).story → Stands told.state (opened options found s).story
+    → BootKept (opened options found s) told.state
 
 -- before a first opening, a device at rest is covered
 abbrev pub StartsCovered : Type 0
@@ -215,8 +235,7 @@ CrashTurns =
 
 -- where the story goes on, the directory reads as the point that it leads to
 pub record ReadsOn (told : Told) (story : Story) : Type 0 where
-  pub names : AreNames (directory_read told.state)
-  pub reads : Reads (image_read told.state) (point_of story)
+  pub reads : ReadsAs (image_read told.state) (point_of story)
   pub after_crash : IsAfterCrash story
 
 abbrev pub ReadsOnIn : Option Told → Story → Type 0
@@ -267,6 +286,22 @@ StepIsSafe s made next = Unit {0}
 abbrev pub StepsAreSafe : Type 0
 StepsAreSafe =
     (s next : State) (held : Option ℕ) (made : WriteStep) → is_open s.mode.phase ≡ true → Turn s (Writing held made) next → IsCovered s → StepIsSafe s made next
+
+-- A crash inside the call of a resume step is as safe: the story stays, and behind a clear nothing of it may be lost.
+abbrev pub ResumeIsSafe : State → ResumeStep → State → Type 0
+ResumeIsSafe s (resume_step.Moved job call) next = CrashesWithin s.footing s.device.told next.device.told s.story next.story
+ResumeIsSafe s (resume_step.Cleared job steps) next = CrashesWithin s.footing s.device.told next.device.told s.story next.story
+ResumeIsSafe s (resume_step.Failed failure) next = CrashesWithin s.footing s.device.told next.device.told s.story next.story
+ResumeIsSafe s made next = Unit {0}
+
+abbrev pub ResumesAreSafe : Type 0
+ResumesAreSafe =
+    (s next : State) (drafts : List Draft) (held : Option ℕ) (made : ResumeStep)
+    → is_open s.mode.phase ≡ true → Turn s (Resuming drafts held made) next → IsCovered s → ResumeIsSafe s made next
+
+-- the device of an open store that is known bears out what reads say
+abbrev pub CoveredBears : Type 0
+CoveredBears = (s : State) → s.footing ≡ Known → is_open s.mode.phase ≡ true → IsCovered s → BearsOut s
 
 -- how many crashes left a forged image, as far as the device tells it
 abbrev pub forged_of : Option Told → ℕ

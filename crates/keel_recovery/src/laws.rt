@@ -1,22 +1,53 @@
 // What a device keeps of a story, and what follows, each as the contract of a function: a proof that needs one calls it.
-ghost use Rattle.keel_recovery.specs.Laws.{CallLeavesPrefix, CrashLeavesPrefix, FirstOpening, KeepingStands, OpeningFindsPrefix, OpeningFindsPublished, OpeningKeeps, ReadingLeavesPrefix};
-ghost use Rattle.keel_recovery.specs.Calls.{CreateMakes, FrameKeeps, LogAppendKeeps, LogSyncKeeps, PublishKeeps, SyncDirKeeps};
-ghost use Rattle.keel_recovery.specs.Machine.{CoveredReads, CoveredStands, CrashTurns, FootingStays, InsideStep, StepsAreSafe, OpeningGoesOn, StartsCovered, TurnKeeps};
-ghost use Rattle.keel_recovery.specs.Worked.{FirstBatch, TwoPuts};
+ghost use Rattle.keel_recovery.specs.Calls.{CreateKeeps, CreateMakes, LogAppendKeeps, LogSyncKeeps, PublishKeeps, SyncDirKeeps};
+ghost use Rattle.keel_recovery.specs.Laws.{CallLeavesPrefix, CrashLeavesPrefix, KeepingStands, ReadingLeavesPrefix, WayIsRead, WayReads};
+ghost use Rattle.keel_recovery.specs.Machine.{CoveredBears, CoveredReads, CoveredStands, CrashTurns, FootingStays, InsideStep, OpeningBoots, OpeningGoesOn, ResumesAreSafe, StartsCovered, StepsAreSafe, TurnKeeps};
+ghost use Rattle.keel_recovery.specs.Worked.{EmptyIsFirst, TwoPuts};
 
-/// A device whose logs hold a story stands for it.
+/// Where CURRENT names a manifest with edits of which each gives a version that the logs go on from, an image that a crash
+/// leaves reads as a prefix of the story.
+pub fn way_reads()
+    ensures { WayReads }
+{}
+
+/// The directory as it is read has all that is published.
+pub fn way_is_read()
+    ensures { WayIsRead }
+{}
+
+/// A device that keeps a story stands for it.
 pub fn keeping_stands()
     ensures { KeepingStands }
 {}
 
-/// A device at rest that is opened keeps what was found, where it stands for the story that a crash left.
-pub fn opening_keeps()
-    ensures { OpeningKeeps }
+/// The store makes a log.
+pub fn create_makes()
+    ensures { CreateMakes }
 {}
 
-/// A device at rest that can be read stands for the story that begins with what is read.
-pub fn first_opening()
-    ensures { FirstOpening }
+/// Whatever is answered, all is kept, and the number is used up.
+pub fn create_keeps()
+    ensures { CreateKeeps }
+{}
+
+/// The store makes the name of its new log firm.
+pub fn sync_dir_keeps()
+    ensures { SyncDirKeeps }
+{}
+
+/// The store appends the records of batches. They count as handed over whether or not the call fails.
+pub fn log_append_keeps()
+    ensures { LogAppendKeeps }
+{}
+
+/// The store syncs its log, which is firm in whole then.
+pub fn log_sync_keeps()
+    ensures { LogSyncKeeps }
+{}
+
+/// The store publishes what was handed to its log.
+pub fn publish_keeps()
+    ensures { PublishKeeps }
 {}
 
 /// What a crash leaves stands for a prefix of the story, with all batches that must not be lost.
@@ -34,59 +65,24 @@ pub fn call_leaves_prefix()
     ensures { CallLeavesPrefix }
 {}
 
-/// What is opened behind a crash is a prefix of the order of logged writes, with every acknowledged synced one.
-pub fn opening_finds_prefix()
-    ensures { OpeningFindsPrefix }
-{}
-
-/// What is opened without a crash has all that was published, though the device needn't be at rest then.
-pub fn opening_finds_published()
-    ensures { OpeningFindsPublished }
-{}
-
-/// A call about logs that nothing kept needs.
-pub fn frame_keeps()
-    ensures { FrameKeeps }
-{}
-
-/// The store makes a log.
-pub fn create_makes()
-    ensures { CreateMakes }
-{}
-
-/// The store makes the name of its new log firm.
-pub fn sync_dir_keeps()
-    ensures { SyncDirKeeps }
-{}
-
-/// The store appends the records of batches. They count as handed over whether or not the call fails.
-pub fn log_append_keeps()
-    ensures { LogAppendKeeps }
-{}
-
-/// The store publishes batches that want no sync.
-pub fn publish_keeps()
-    ensures { PublishKeeps }
-{}
-
-/// The store syncs its log, and publishes batches that must not be lost from then on.
-pub fn log_sync_keeps()
-    ensures { LogSyncKeeps }
-{}
-
-/// Before an opening, the machine's device is covered where it is at rest.
+/// Before an opening, the machine's device is covered where it is at rest and its directory, if it is read at all, is sound.
 pub fn starts_covered()
     ensures { StartsCovered }
 {}
 
-/// Each turn that a caller may ask for keeps the machine's device covered, whatever the answer.
-pub fn turn_keeps()
-    ensures { TurnKeeps }
+/// An opening of a device at rest that stands for the story leaves a store that boots.
+pub fn opening_boots()
+    ensures { OpeningBoots }
 {}
 
 /// The device of a machine that has a story and keeps it covered stands for the story.
 pub fn covered_stands()
     ensures { CoveredStands }
+{}
+
+/// The device of an open store bears out what reads say.
+pub fn covered_bears()
+    ensures { CoveredBears }
 {}
 
 /// Whatever a crash leaves of a machine's covered device is a turn of the machine.
@@ -125,7 +121,17 @@ pub fn two_puts()
     ensures { TwoPuts }
 {}
 
-/// The first synced batch of a new store, call by call on an empty device.
-pub fn first_batch()
-    ensures { FirstBatch }
+/// A store can begin on a device without a file.
+pub fn empty_is_first()
+    ensures { EmptyIsFirst }
+{}
+
+/// Every turn of the machine keeps its device covered.
+pub fn turn_keeps()
+    ensures { TurnKeeps }
+{}
+
+/// A crash inside the call of a resume step leaves a prefix of the story before it or behind it.
+pub fn resumes_are_safe()
+    ensures { ResumesAreSafe }
 {}

@@ -2,31 +2,30 @@ use crate::laws;
 
 #[test]
 fn stories_and_devices() {
+    laws::way_reads();
+    laws::way_is_read();
     laws::keeping_stands();
-    laws::opening_keeps();
-    laws::first_opening();
     laws::crash_leaves_prefix();
     laws::reading_leaves_prefix();
     laws::call_leaves_prefix();
-    laws::opening_finds_prefix();
-    laws::opening_finds_published();
 }
 
 #[test]
 fn calls() {
-    laws::frame_keeps();
     laws::create_makes();
+    laws::create_keeps();
     laws::sync_dir_keeps();
     laws::log_append_keeps();
-    laws::publish_keeps();
     laws::log_sync_keeps();
+    laws::publish_keeps();
 }
 
 #[test]
 fn the_machine() {
     laws::starts_covered();
-    laws::turn_keeps();
+    laws::opening_boots();
     laws::covered_stands();
+    laws::covered_bears();
     laws::crash_turns();
     laws::inside_step();
     laws::steps_are_safe();
@@ -38,5 +37,5 @@ fn the_machine() {
 #[test]
 fn worked_examples() {
     laws::two_puts();
-    laws::first_batch();
+    laws::empty_is_first();
 }

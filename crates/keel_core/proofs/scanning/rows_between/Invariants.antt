@@ -1,7 +1,7 @@
-use Rattle.std.proofs.Common.{◌≡◌, ◌++◌, None, option_map}
-use Rattle.keel_core.specs.Scans.{live}
+use Rattle.std.proofs.Common.{◌≡◌, ◌++◌}
+use Rattle.keel_levels.specs.Ranges.{between}
 use Rattle.keel_core.proofs.scanning.rows_between.Given as goal
 
--- what is kept and what stays of the rows to come are what stays of all
+-- the rows so far, with those of the range that are to come, are all of the range
 abbrev pub invariant-loop-row : goal.invariant-loop-row
-invariant-loop-row l = l.rows ++ live l.from l.to (option_map (λ key. key.now) l.last) l.row-iterator ≡ live l.from l.to None l.initial.row-iterator
+invariant-loop-row l = l.rows ++ between l.from l.to l.row-iterator ≡ between l.from l.to l.initial.row-iterator

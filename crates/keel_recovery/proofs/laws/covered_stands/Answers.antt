@@ -1,4 +1,4 @@
-use Rattle.keel_recovery.proofs.Machine.{covered_stands}
+use Rattle.keel_recovery.proofs.Covered.{covered_stands}
 use Rattle.keel_recovery.proofs.laws.covered_stands.Goals as goal
 
 pub returns : goal.returns

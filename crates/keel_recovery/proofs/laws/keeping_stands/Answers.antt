@@ -1,5 +1,5 @@
-use Rattle.keel_recovery.proofs.Stands.{stands}
+use Rattle.keel_recovery.proofs.Stands.{keeping_stands}
 use Rattle.keel_recovery.proofs.laws.keeping_stands.Goals as goal
 
 pub returns : goal.returns
-returns c = stands
+returns c = keeping_stands

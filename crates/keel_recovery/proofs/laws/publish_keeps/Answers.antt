@@ -1,4 +1,4 @@
-use Rattle.keel_recovery.proofs.Growing.{publish_keeps}
+use Rattle.keel_recovery.proofs.Publishing.{publish_keeps}
 use Rattle.keel_recovery.proofs.laws.publish_keeps.Goals as goal
 
 pub returns : goal.returns

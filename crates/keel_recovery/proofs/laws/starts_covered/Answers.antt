@@ -1,4 +1,4 @@
-use Rattle.keel_recovery.proofs.Machine.{starts_covered}
+use Rattle.keel_recovery.proofs.Covered.{starts_covered}
 use Rattle.keel_recovery.proofs.laws.starts_covered.Goals as goal
 
 pub returns : goal.returns

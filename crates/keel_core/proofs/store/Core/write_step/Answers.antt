@@ -4,13 +4,13 @@ use Rattle.keel_core.proofs.store.Core.write_step.Goals as goal
 
 pub returns-in-None-clause-turn : goal.returns-in-None-clause-turn
 returns-in-None-clause-turn g c = record {
-  goes = λ s stands. c.act.ensures.turn.goes s c.args.held stands (rest_same c.args.self.now s c.args.held stands ∙ sym c.in-None.ensures.rest);
+  goes = λ s stands. c.act.ensures.turn.goes s c.args.held stands (rest_same c.args.self.now s c.args.held c.rest.ensures.still stands ∙ sym c.in-None.ensures.rest);
 }
 
 pub returns-in-Some-clause-turn : goal.returns-in-Some-clause-turn
 returns-in-Some-clause-turn g c =
     rw (c.rest_with.ensures.step, c.rest_with.ensures.view)
-    (rest_goes c.args.self.now c.in-Some.rest c.args.held c.in-Some.ensures.rests c.in-Some.ensures.rest)
+    (rest_goes c.args.self.now c.in-Some.rest c.args.held c.rest.ensures.still c.in-Some.ensures.rests c.in-Some.ensures.rest)
 
 pub returns-in-Some-clause-nearer : goal.returns-in-Some-clause-nearer
 returns-in-Some-clause-nearer g c =

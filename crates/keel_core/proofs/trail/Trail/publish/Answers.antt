@@ -1,5 +1,4 @@
 use Rattle.std.proofs.Common.{arith}
-use Rattle.keel_core.specs.Trails.{point_read}
 use Rattle.keel_core.proofs.Stories.{no_limbo, whole_length, whole_log}
 use Rattle.keel_core.proofs.trail.Trail.publish.Goals as goal
 
@@ -7,7 +6,7 @@ pub returns-then-sync-clause-shown : goal.returns-then-sync-clause-shown
 returns-then-sync-clause-shown c =
     let t = c.args.self.now in
     rw c.if-sync.true (λ i. record {
-      start = point_read t.read;
+      start = t.start;
       log = whole_log t.batches.items t.published c.len-self.result (omega (arith, c.len-self.ensures)) i;
       limbo = no_limbo t.batches.items c.len-self.result (omega (arith, c.len-self.ensures)) i;
       floor = whole_length t.batches.items t.published c.len-self.result (omega (arith, c.len-self.ensures)) i;
@@ -17,7 +16,7 @@ pub returns-else-sync-clause-shown : goal.returns-else-sync-clause-shown
 returns-else-sync-clause-shown c =
     let t = c.args.self.now in
     rw c.if-sync.false (λ i. record {
-      start = point_read t.read;
+      start = t.start;
       log = whole_log t.batches.items t.published c.len-self.result (omega (arith, c.len-self.ensures)) i;
       limbo = no_limbo t.batches.items c.len-self.result (omega (arith, c.len-self.ensures)) i;
       floor = t.floor;

@@ -1,8 +1,0 @@
-use Rattle.std.proofs.Common.{◌≡◌, ◌+◌, drop}
-use Rattle.keel_boot_machine.specs.Admission.{ops_of}
-use Rattle.keel_resume.specs.Drafts.{count_ops}
-use Rattle.keel_boot_core.proofs.queue.count_ops.Given as goal
-
--- the ops that are left, with those that were counted, are all
-abbrev pub invariant-loop-batch : goal.invariant-loop-batch
-invariant-loop-batch l = l.total + count_ops (ops_of (drop l.batch-index l.batches)) ≡ count_ops (ops_of l.batches)

@@ -1,2 +1,0 @@
-pub mod FirstTests
-pub mod Stopping

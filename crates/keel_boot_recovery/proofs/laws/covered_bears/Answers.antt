@@ -1,5 +1,0 @@
-use Rattle.keel_boot_recovery.proofs.Bearing.{covered_bears}
-use Rattle.keel_boot_recovery.proofs.laws.covered_bears.Goals as goal
-
-pub returns : goal.returns
-returns c = covered_bears

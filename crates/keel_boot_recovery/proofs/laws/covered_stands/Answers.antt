@@ -1,5 +1,0 @@
-use Rattle.keel_boot_recovery.proofs.Covered.{covered_stands}
-use Rattle.keel_boot_recovery.proofs.laws.covered_stands.Goals as goal
-
-pub returns : goal.returns
-returns c = covered_stands

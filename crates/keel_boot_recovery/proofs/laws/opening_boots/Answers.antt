@@ -1,5 +1,0 @@
-use Rattle.keel_boot_recovery.proofs.Opened.{opening_boots}
-use Rattle.keel_boot_recovery.proofs.laws.opening_boots.Goals as goal
-
-pub returns : goal.returns
-returns c = opening_boots

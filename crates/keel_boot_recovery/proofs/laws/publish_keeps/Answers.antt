@@ -1,5 +1,0 @@
-use Rattle.keel_boot_recovery.proofs.Publishing.{publish_keeps}
-use Rattle.keel_boot_recovery.proofs.laws.publish_keeps.Goals as goal
-
-pub returns : goal.returns
-returns c = publish_keeps

@@ -1,5 +1,0 @@
-use Rattle.keel_boot_recovery.proofs.Stands.{way_reads}
-use Rattle.keel_boot_recovery.proofs.laws.way_reads.Goals as goal
-
-pub returns : goal.returns
-returns c = way_reads

@@ -1,0 +1,90 @@
+-- The rows of segments and their batches.
+use Rattle.std.proofs.Common.{◌≡◌, ℕ, ◌+◌, List, [], ◌∷◌, ◌++◌, length, map, refl, sym, ap, subst, ◌∙◌, arith, append_assoc, append-nil}
+use Rattle.keel_base.specs.declared.op.Op.{Op}
+use Rattle.keel_base.specs.declared.row.Row.{Row}
+use Rattle.keel_base.specs.Rows.{op_rows}
+use Rattle.keel_base.specs.Weight as ops
+use Rattle.keel_machine.specs.Admission.{weight_of_batches}
+use Rattle.keel_machine.specs.States.{Segment}
+use Rattle.keel_mem.specs.Totals.{row_bytes, weight_of}
+use Rattle.keel_mem.proofs.Weighing.{weight_of-op_rows}
+use Rattle.std.proofs.lemmas.List.{length-append}
+use Rattle.std.proofs.lemmas.List.Sums.{sum_by-append}
+use Rattle.keel_resume.specs.Drafts.{batch_rows, count_ops}
+use Rattle.keel_core.specs.declared.segments.Segment.{Segment as CoreSegment}
+use Rattle.keel_core.specs.Segments.{segment_shown, segments_shown}
+use Rattle.keel_core.specs.Views.{AreSegments, FullSegment}
+use Rattle.keel_core.proofs.Lists.{count_ops-append}
+
+pub batch_rows-append : (seq : ℕ) (front back : List (List Op)) → batch_rows seq (front ++ back) ≡ batch_rows seq front ++ batch_rows (seq + count_ops front) back
+batch_rows-append seq [] back = ap (λ n. batch_rows n back) (omega arith)
+batch_rows-append seq (ops ∷ front) back =
+    let number : seq + length ops + count_ops front ≡ seq + count_ops (ops ∷ front) = omega arith in
+    ap (λ l. op_rows seq ops ++ l) (batch_rows-append (seq + length ops) front back)
+    ∙ sym (append_assoc (op_rows seq ops) (batch_rows (seq + length ops) front) (batch_rows (seq + length ops + count_ops front) back))
+    ∙ ap (λ n. (op_rows seq ops ++ batch_rows (seq + length ops) front) ++ batch_rows n back) number
+
+-- what rows weigh is what their batches weigh
+pub weight_of-batch_rows : (seq : ℕ) (batches : List (List Op)) → weight_of (batch_rows seq batches) ≡ weight_of_batches batches
+weight_of-batch_rows seq [] = refl
+weight_of-batch_rows seq (batch ∷ batches) =
+    let rest = weight_of-batch_rows (seq + length batch) batches in
+    let first = weight_of-op_rows seq batch in
+    let split = sum_by-append (λ (row : Row). 16 + row_bytes row) (op_rows seq batch) (batch_rows (seq + length batch) batches) in
+    let whole : weight_of_batches (batch ∷ batches) ≡ ops.weight_of batch + weight_of_batches batches = refl in
+    omega (arith, rest, first, split, whole)
+
+-- ---- of all segments
+
+pub active_weighs : (seq : ℕ) (fulls : List FullSegment) (segments : List Segment) (rows : List Row) (active : List (List Op)) (last : ℕ)
+    → AreSegments seq fulls segments rows active last → weight_of_batches active ≡ weight_of rows
+active_weighs seq [] [] rows active last h = sym (weight_of-batch_rows (seq + 1) active) ∙ ap weight_of (sym h.0)
+active_weighs seq (full ∷ fulls) (segment ∷ segments) rows active last h = active_weighs (seq + count_ops segment.batches) fulls segments rows active last h.2
+active_weighs seq [] (segment ∷ segments) rows active last h = absurd h
+active_weighs seq (full ∷ fulls) [] rows active last h = absurd h
+
+pub as_many : (seq : ℕ) (fulls : List FullSegment) (segments : List Segment) (rows : List Row) (active : List (List Op)) (last : ℕ)
+    → AreSegments seq fulls segments rows active last → length segments ≡ length fulls
+as_many seq [] [] rows active last h = refl
+as_many seq (full ∷ fulls) (segment ∷ segments) rows active last h = omega (arith, as_many (seq + count_ops segment.batches) fulls segments rows active last h.2)
+as_many seq [] (segment ∷ segments) rows active last h = absurd h
+as_many seq (full ∷ fulls) [] rows active last h = absurd h
+
+-- batches more in the active one
+pub added_more : (seq : ℕ) (fulls : List FullSegment) (segments : List Segment) (rows : List Row) (active more : List (List Op)) (last behind : ℕ)
+    → AreSegments seq fulls segments rows active last → behind ≡ last + count_ops more
+    → AreSegments seq fulls segments (rows ++ batch_rows (last + 1) more) (active ++ more) behind
+added_more seq [] [] rows active more last behind h is =
+    let number : last + 1 ≡ seq + 1 + count_ops active = omega (arith, h.1) in (
+      (λ i. h.0 i ++ batch_rows (number i) more) ∙ sym (batch_rows-append (seq + 1) active more),
+      omega (arith, h.1, is, count_ops-append active more),
+    )
+added_more seq (full ∷ fulls) (segment ∷ segments) rows active more last behind h is =
+    (h.0, h.1, added_more (seq + count_ops segment.batches) fulls segments rows active more last behind h.2 is)
+added_more seq [] (segment ∷ segments) rows active more last behind h is = absurd h
+added_more seq (full ∷ fulls) [] rows active more last behind h is = absurd h
+
+-- the active one is full, and another has no batch yet
+pub one_full : (seq : ℕ) (fulls : List FullSegment) (segments : List Segment) (rows : List Row) (active : List (List Op)) (last : ℕ) (logs : List ℕ)
+    → AreSegments seq fulls segments rows active last
+    → AreSegments seq (fulls ++ (record { rows = rows; logs = logs }) ∷ []) (segments ++ (record { batches = active; logs = logs }) ∷ []) [] [] last
+one_full seq [] [] rows active last logs h = (refl, h.0, (refl, omega (arith, h.1)))
+one_full seq (full ∷ fulls) (segment ∷ segments) rows active last logs h =
+    (h.0, h.1, one_full (seq + count_ops segment.batches) fulls segments rows active last logs h.2)
+one_full seq [] (segment ∷ segments) rows active last logs h = absurd h
+one_full seq (full ∷ fulls) [] rows active last logs h = absurd h
+
+-- ---- as the code has them
+
+pub segments_shown-push : (segments : List CoreSegment) (segment : CoreSegment) → segments_shown (segments ++ segment ∷ []) ≡ segments_shown segments ++ segment_shown segment ∷ []
+segments_shown-push [] segment = refl
+segments_shown-push (first ∷ segments) segment = ap (λ l. segment_shown first ∷ l) (segments_shown-push segments segment)
+
+pub shown_many : (segments : List CoreSegment) → length (segments_shown segments) ≡ length segments
+shown_many [] = refl
+shown_many (first ∷ segments) = omega (arith, shown_many segments)
+
+pub push_many : (old new : List CoreSegment) (segment : CoreSegment) → new ≡ old ++ segment ∷ [] → length new ≡ length old + 1
+push_many old new segment is =
+    let one : length (segment ∷ []) ≡ 1 = refl in
+    omega (arith, ap length is, length-append old (segment ∷ []), one)

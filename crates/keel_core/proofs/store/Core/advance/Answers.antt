@@ -1,0 +1,96 @@
+use Rattle.std.proofs.Common.{option_map, ◌∷◌, ap, sym, ◌∙◌}
+use Rattle.keel_core.specs.Boots.{boot_shown, levels_in}
+use Rattle.keel_core.specs.Segments.{segments_shown}
+use Rattle.keel_core.specs.Flights.{flying, log_shown}
+use Rattle.keel_core.specs.Trails.{shown}
+use Rattle.keel_core.specs.Views.{CoreView}
+use Rattle.keel_core.proofs.BootJobs.{cleared_goes, failed_goes, goes_on_way, log_at_end, moved_goes}
+use Rattle.keel_core.proofs.store.Core.advance.Goals as goal
+
+pub invariant_of-t-28 : goal.invariant_of-t-28
+invariant_of-t-28 g c =
+    let m = c.in-Moved.ensures in
+    record {
+      going = m.goes_on;
+      way = goes_on_way m.act (m.another ∷ m.later) _ _ _ c.running.invariant.way m.made.next m.made.job_is m.made.left;
+    }
+
+pub clear-requires-clause-log : goal.clear-requires-clause-log
+clear-requires-clause-log g c =
+    let m = c.in-Done.ensures in
+    log_at_end m.act _ _ _ c.running.invariant.way m.made.next m.made.job_is
+
+pub returns-in-Moved : goal.returns-in-Moved
+returns-in-Moved g c =
+    let w = c.self.inside in
+    let D = g.D.Disk in
+    let old : CoreView = record {
+      device = D.seen w.disk;
+      options = w.options;
+      boot = boot_shown w.boot;
+      boot_job = w.boot_job;
+      trail = shown w.trail;
+      immutable = segments_shown w.segments.items;
+      rows = w.mem.rows;
+      log = log_shown w.log;
+      levels = levels_in w.tables;
+      waiting = w.queue.waiting.items;
+      group = flying w.queue.group;
+      outcomes = w.queue.outcomes.items;
+      last_ticket = w.queue.last_ticket;
+      job = w.queue.job;
+      failed = w.failed;
+      next_file = w.next_file.number;
+      manifest = option_map (λ used. used.number) w.manifest.in_use;
+    } in
+    rw (← c.self.view_is, ← c.running.view_is) (tt, moved_goes old c.args.number c.running.inside.steps _ _ c.in-Moved.call c.running.invariant.way c.in-Moved.ensures)
+
+pub returns-in-Done : goal.returns-in-Done
+returns-in-Done g c =
+    let w = c.self.inside in
+    let D = g.D.Disk in
+    let old : CoreView = record {
+      device = D.seen w.disk;
+      options = w.options;
+      boot = boot_shown w.boot;
+      boot_job = w.boot_job;
+      trail = shown w.trail;
+      immutable = segments_shown w.segments.items;
+      rows = w.mem.rows;
+      log = log_shown w.log;
+      levels = levels_in w.tables;
+      waiting = w.queue.waiting.items;
+      group = flying w.queue.group;
+      outcomes = w.queue.outcomes.items;
+      last_ticket = w.queue.last_ticket;
+      job = w.queue.job;
+      failed = w.failed;
+      next_file = w.next_file.number;
+      manifest = option_map (λ used. used.number) w.manifest.in_use;
+    } in
+    rw (c.clear.ensures, ← c.self.view_is, ← c.running.view_is) (tt, cleared_goes old c.args.number c.running.inside.steps _ _ c.in-Done.ensures)
+
+pub returns-in-Failed : goal.returns-in-Failed
+returns-in-Failed g c =
+    let w = c.self.inside in
+    let D = g.D.Disk in
+    let old : CoreView = record {
+      device = D.seen w.disk;
+      options = w.options;
+      boot = boot_shown w.boot;
+      boot_job = w.boot_job;
+      trail = shown w.trail;
+      immutable = segments_shown w.segments.items;
+      rows = w.mem.rows;
+      log = log_shown w.log;
+      levels = levels_in w.tables;
+      waiting = w.queue.waiting.items;
+      group = flying w.queue.group;
+      outcomes = w.queue.outcomes.items;
+      last_ticket = w.queue.last_ticket;
+      job = w.queue.job;
+      failed = w.failed;
+      next_file = w.next_file.number;
+      manifest = option_map (λ used. used.number) w.manifest.in_use;
+    } in
+    rw (← c.self.view_is, ← c.running.view_is) (tt, failed_goes old c.args.number c.running.inside.steps _ _ c.in-Failed.failure c.in-Failed.ensures)

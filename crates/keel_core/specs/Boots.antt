@@ -1,0 +1,17 @@
+-- The boot and the tables as the core has them.
+use Rattle.std.specs.Prelude.{List}
+use Rattle.keel_levels.specs.declared.live.LiveTable.{LiveTable}
+use Rattle.keel_core.specs.declared.boot.Boot.{Boot}
+use Rattle.keel_core.specs.declared.boot.Boot.TheVariants as boot
+use Rattle.keel_core.specs.declared.tables.Tables.{Tables}
+use Rattle.keel_core.specs.Tables.{lives_of}
+use Rattle.keel_core.specs.Views.{BootShown, ToStart, Running, Over, Cleared}
+
+abbrev pub boot_shown : Boot → BootShown
+boot_shown boot.ToStart = ToStart
+boot_shown (boot.Running resumption) = Running resumption
+boot_shown (boot.Over failure) = Over failure
+boot_shown boot.Cleared = Cleared
+
+abbrev pub levels_in : Tables → List LiveTable
+levels_in t = lives_of t.live t.entries

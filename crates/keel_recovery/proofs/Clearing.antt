@@ -1,0 +1,55 @@
+-- A store whose boot has cleared is one that writes.
+use Rattle.std.proofs.Common.{◌≡◌, ◌≤◌, List, [], ◌∷◌, ◌++◌, length, take, Option, Some, None, option_map, refl, sym, ap, subst, ◌∙◌, arith, take_all}
+use Rattle.std.proofs.lemmas.List.{append-nil}
+use Rattle.keel_base.specs.Points.{fold_batches}
+use Rattle.keel_base.specs.declared.op.Op.{Op}
+use Rattle.keel_disk.specs.State.{State as Disk}
+use Rattle.keel_disk.specs.Steady.{CutsExist}
+use Rattle.keel_disk.specs.Seen.{Seen}
+use Rattle.keel_disk.specs.Sound.{IsOneToOne}
+use Rattle.keel_group.specs.Queue.{Ticketed}
+use Rattle.keel_machine.specs.Admission.{last_seq}
+use Rattle.keel_machine.specs.Resuming.{cleared, cleared_story}
+use Rattle.keel_machine.specs.States.{State, Story, point_of, SegmentLog, Group, new_log, with_device}
+use Rattle.keel_batch.specs.Batches.{AreBatches}
+use Rattle.keel_resume.specs.Plans.{Job}
+use Rattle.keel_recovery.specs.BootTurns.{IsCleared, cleared_log}
+use Rattle.keel_recovery.specs.Machine.{IsKept, HoldsBy, IsAt, AreOnTheirWay}
+
+on_way : (story : Story) (waiting : List Ticketed) (running : Option Group) → story.limbo ≡ [] → waiting ≡ [] → running ≡ None → AreOnTheirWay story running waiting
+on_way story waiting running none none_wait none_run =
+    subst (λ (w : List Ticketed). AreOnTheirWay story running w) (sym none_wait)
+    (subst (λ (r : Option Group). AreOnTheirWay story r []) (sym none_run) (subst (λ (l : List (List Op)). AreBatches (point_of story).seq (l ++ [])) (sym none) tt))
+
+-- what is cleared is what a store that writes keeps
+pub clear_kept : (job : Job) (s : State) (device : Seen) (state : Disk) → IsOneToOne state → CutsExist state → 1 ≤ s.numbers.next_file → s.writing.waiting ≡ [] → s.jobs.write.running ≡ None
+    → IsCleared (cleared job s) state → IsKept state (with_device device (cleared job s))
+clear_kept job s device state one cuts numbered none_waits none_runs h = record {
+  one_to_one = one;
+  cuts = cuts;
+  numbered = numbered;
+  none_boots = refl;
+  stored = by (option_map new_log job.progress.log) s.writing.waiting s.jobs.write.running h.log_is none_waits none_runs;
+}
+  where
+    by : (o : Option SegmentLog) (waiting : List Ticketed) (running : Option Group) → o ≡ Some (new_log h.log) → waiting ≡ [] → running ≡ None
+        → HoldsBy o state (cleared job s).levels (cleared_story s.story) [] [] waiting None running s.numbers.next_file (last_seq s)
+    by o waiting running log none none_too =
+        subst (λ (l : Option SegmentLog). HoldsBy l state (cleared job s).levels (cleared_story s.story) [] [] waiting None running s.numbers.next_file (last_seq s)) (sym log)
+        (record {
+          ways = h.way ∷ [];
+          place = length s.story.log;
+          full = [];
+          are_full = tt;
+          own = cleared_log h.log (cleared job s);
+          number_is = refl;
+          batches_are = refl;
+          keeps = h.keeps;
+          reach = h.reach;
+          tables_to = ap (λ (l : List (List Op)). (fold_batches s.story.start l).seq) (ap (take (length s.story.log)) (append-nil s.story.log) ∙ take_all (length s.story.log) s.story.log (omega arith));
+          order = (
+            h.grows,
+            subst (λ (r : Option Group). IsAt state (cleared_story s.story) s.numbers.next_file (cleared_log h.log (cleared job s)) r) (sym none_too) refl,
+            on_way (cleared_story s.story) waiting running refl none none_too,
+          );
+        })
