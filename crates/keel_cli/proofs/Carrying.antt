@@ -14,17 +14,26 @@ use Rattle.keel_machine.specs.declared.answers.Got.TheVariants as got
 use Rattle.keel_machine.specs.declared.answers.Scanned.{Scanned}
 use Rattle.keel_machine.specs.declared.answers.Scanned.TheVariants as scanned
 use Rattle.keel_base.specs.declared.row.Row.{Row}
-use Rattle.keel_machine.specs.Opening.{continues}
-use Rattle.keel_machine.specs.States.{State, with_device}
-use Rattle.keel_disk.specs.declared.rule.Arranged.TheVariants.{Crashed}
+use Rattle.keel_machine.specs.Opening.{continues, goes_on_from}
+use Rattle.keel_machine.specs.Reads.{BearsOut, IsBorne, WhereKnown}
+use Rattle.keel_machine.specs.States.{State, Footing, Known, Unknown, Phase, Shut, Booting, Leaving, Nothing, Crashed, Left, is_left, with_device}
+use Rattle.keel_machine.specs.States as machine
+use Rattle.keel_disk.specs.declared.rule.Arranged.TheVariants as arranged
 use Rattle.keel_disk.specs.declared.rule.Pick.{Pick}
-use Rattle.keel_machine.specs.Turns.{Turn, Answers, after, Opening, Getting, Scanning, Listing, Crashing}
+use Rattle.keel_machine.specs.Turns.{Event, Turn, Answers, after, behind, Opening, Getting, Scanning, Listing, Crashing}
 use Rattle.keel_machine.specs.Crash.{crash_after}
-use Rattle.keel_reading.specs.declared.refusal.OpenRefusal.{OpenRefusal}
-use Rattle.keel_reading.specs.declared.refusal.OpenRefusal.TheVariants as refusal
+use Rattle.keel_base.specs.declared.options.Options.{Options}
+use Rattle.keel_disk.specs.Sound.{IsAtRest}
+use Rattle.keel_open.specs.declared.refusal.OpenRefusal.{OpenRefusal}
+use Rattle.keel_open.specs.declared.refusal.OpenRefusal.TheVariants as refusal
+use Rattle.keel_table.specs.declared.fault.TableFault.{TableFault}
+use Rattle.keel_table.specs.declared.fault.TableFault.TheVariants as fault
 use Rattle.keel_core.specs.Openings.{Opens, Expects, IsBorneOut, WhereGoesOn}
-use Rattle.keel_core.specs.Views.{CoreView, StandsFor, TakesTurn, point_in}
-use Rattle.keel_recovery.specs.Machine.{IsCovered, Drops, ReadsOnIn}
+use Rattle.keel_core.specs.Views.{CoreView, StandsFor, TakesTurn, TakesRead, BootShown, ToStart, Running, Over, Cleared, last_in, phase_of}
+use Rattle.keel_recovery.specs.Machine.{IsCovered, IsCoveredBy, KeptBy, Drops, ReadsOnIn}
+use Rattle.keel_recovery.proofs.Bearing.{covered_bears}
+use Rattle.keel_recovery.proofs.Machine.{directory_at_rest}
+use Rattle.std.proofs.Math.Logic.{∥∥₁_map}
 use Rattle.keel_machine.specs.States.{is_open}
 use Rattle.keel_recovery.proofs.Crashing.{crash_turns}
 use Rattle.keel_recovery.proofs.GoingOn.{covered_reads}
@@ -35,27 +44,35 @@ use Rattle.keel_script.specs.declared.reply.Reply.TheVariants as reply
 use Rattle.keel_cli.specs.declared.answer.Answer.{Answer}
 use Rattle.keel_cli.specs.declared.answer.Answer.TheVariants as answers
 use Rattle.keel_cli.specs.Cuts.{StoreCutShort, CarriedOut}
-use Rattle.keel_cli.specs.Stores.{StoreView, IsShut, Shows, Stands, is_one_open, Leads, Leaves, CoreLeads, AreTold}
+use Rattle.keel_cli.specs.Stores.{StoreView, IsShut, Shows, Stands, is_one_open, Leads, Leaves, CoreLeads, AreTold, StandsForSome}
 use Rattle.keel_cli.specs.Stores as view
 use Rattle.keel_cli.specs.Replies.{replies_of}
-use Rattle.keel_cli.specs.Runs.{opening_replies, listing_replies, reading_replies, rest_reply, row_replies, CrashRun, Calls, RestsOrCalls, CarriesOnStore, CallsPartly}
-use Rattle.keel_cli.proofs.Tickets.{state_at, stands_at, told_in}
+use Rattle.keel_cli.specs.Runs.{fault_replies, opening_replies, listing_replies, reading_replies, rest_reply, row_replies, scan_replies, GetRun, ScanRun, CrashRun, Calls, RestsOrCalls, CarriesOnStore, CallsPartly}
+use Rattle.keel_cli.proofs.Tickets.{stays_told, told_in, told_by}
 
 -- ---- commands that make no call, and those that make some
 
-pub rests_on_store : (s : State) (command : Command) (reply_ : Reply) (is_one_open : Bool) → is_open s.mode.phase ≡ is_one_open → Some reply_ ≡ rest_reply is_one_open command
-    → CarriesOnStore s command (reply_ ∷ []) s
-rests_on_store s command reply_ is_one_open is rests =
-    subst (λ (r : Option Reply). RestsOrCalls r s command (reply_ ∷ []) s) (rests ∙ ap (λ (b : Bool). rest_reply b command) (sym is)) (record { same = refl; prints = refl })
+module _ (options : Options) where
+  pub rests_on_store : (s : State) (command : Command) (reply_ : Reply) (is_one_open : Bool) → is_open s.mode.phase ≡ is_one_open → Some reply_ ≡ rest_reply is_one_open command
+      → CarriesOnStore options s command (reply_ ∷ []) s
+  rests_on_store s command reply_ is_one_open is rests =
+      subst (λ (r : Option Reply). RestsOrCalls options r s command (reply_ ∷ []) s) (rests ∙ ap (λ (b : Bool). rest_reply b command) (sym is)) (record { same = refl; prints = refl })
 
-pub calls_on_store : (s new : State) (command : Command) (replies : List Reply) → rest_reply (is_open s.mode.phase) command ≡ None → Calls s command replies new → CarriesOnStore s command replies new
-calls_on_store s new command replies none run = subst (λ (r : Option Reply). RestsOrCalls r s command replies new) (sym none) run
+  pub calls_on_store : (s new : State) (command : Command) (replies : List Reply) → rest_reply (is_open s.mode.phase) command ≡ None → Calls options s command replies new
+      → CarriesOnStore options s command replies new
+  calls_on_store s new command replies none run = subst (λ (r : Option Reply). RestsOrCalls options r s command replies new) (sym none) run
 
-pub partly_on_store : (s new : State) (command : Command) → rest_reply (is_open s.mode.phase) command ≡ None → CallsPartly s command new → StoreCutShort s command new
-partly_on_store s new command none cut = inr (inr (none, cut))
+  pub partly_on_store : (s new : State) (command : Command) → rest_reply (is_open s.mode.phase) command ≡ None → CallsPartly options s command new → StoreCutShort options s command new
+  partly_on_store s new command none cut = inr (inr (none, cut))
+
+opened_in : (boot : BootShown) → is_open (phase_of boot) ≡ true
+opened_in ToStart = refl
+opened_in (Running resumption) = refl
+opened_in (Over failure) = refl
+opened_in Cleared = refl
 
 pub open_mode : (core : CoreView) (s : State) → StandsFor core s → is_open s.mode.phase ≡ true
-open_mode core s stands = ap (λ (t : State). is_open t.mode.phase) stands.state_is
+open_mode core s stands = ap (λ (t : State). is_open t.mode.phase) stands.state_is ∙ opened_in core.boot
 
 -- whether a store is open, as the machine has it
 pub open_as : (store : StoreView) (s : State) → Stands store s → is_open s.mode.phase ≡ is_one_open store
@@ -91,64 +108,109 @@ none_where s b command is none = ap (λ (c : Bool). rest_reply c command) is ∙
 
 -- ---- reads
 
-pub read_run : (old new : CoreView) (key : List ℕ) (answer : Got) (replies : List Reply) → TakesTurn old (Getting key answer) new → reading_replies answer ≡ Some replies
-    → (s : State) → StandsFor old s → Leads (view.Open new) (CarriesOnStore s (Get key) replies)
-read_run old new key answer replies turns prints s stands =
-    let gone = turns.goes s stands in
-    let next = after s (Getting key answer) new.device in
-    (next, gone.1, calls_on_store s next (Get key) replies (none_where s true (Get key) (open_mode old s stands) refl) (record { answer = answer; turn = (gone.0, refl); prints = prints }))
+-- what a covered device that is known bears out, and of another nothing is asked
+borne_by : (f : Footing) (s : State) → s.footing ≡ f → is_open s.mode.phase ≡ true → IsCovered s → IsBorne s
+borne_by Known s is opened covered = subst (λ (f : Footing). WhereKnown f (BearsOut s)) (sym is) (covered_bears s is opened covered)
+borne_by Unknown s is opened covered = subst (λ (f : Footing). WhereKnown f (BearsOut s)) (sym is) tt
 
-pub read_cut : (old new : CoreView) (key : List ℕ) → TakesTurn old (Getting key got.OutOfMemory) new
-    → (s : State) → StandsFor old s → Leaves (view.Open new) (StoreCutShort s (Get key))
-read_cut old new key turns s stands =
-    let gone = turns.goes s stands in
-    let next = after s (Getting key got.OutOfMemory) new.device in
-    (next, open_device new next gone.1, partly_on_store s next (Get key) (none_where s true (Get key) (open_mode old s stands) refl) (gone.0, refl))
+pub covered_borne : (core : CoreView) (s : State) → StandsFor core s → IsCovered s → IsBorne s
+covered_borne core s stands covered = borne_by s.footing s refl (open_mode core s stands) covered
 
-pub read_told : (old new : CoreView) (key : List ℕ) (answer : Got) → TakesTurn old (Getting key answer) new → AreTold old.outcomes → AreTold new.outcomes
-read_told old new key answer turns told =
-    told_in new (after (state_at old) (Getting key answer) new.device) (turns.goes (state_at old) (stands_at old)).1 told
+-- nothing is known of the device any more
+abbrev forgotten : State → State
+forgotten s = record s { footing = Unknown }
 
--- ---- scans
+forgotten_stands : (core : CoreView) (s : State) → StandsFor core s → StandsFor core (forgotten s)
+forgotten_stands core s stands = record {
+  beyond = record stands.beyond { footing = Unknown };
+  state_is = ap forgotten stands.state_is;
+  fits = record { story = stands.fits.story; segments = stands.fits.segments; tables = stands.fits.tables; opened = tt; leads = stands.fits.leads };
+}
 
-pub scan_run : (old new : CoreView) (from to : List ℕ) (rows : List Row) → TakesTurn old (Scanning from to (scanned.Rows rows)) new
-    → (s : State) → StandsFor old s → CarriedOut {E = OutOfMemory} s (Scan from to) (view.Open new) (Ok (answers.Rows rows))
-scan_run old new from to rows turns s stands =
-    let gone = turns.goes s stands in
-    let next = after s (Scanning from to (scanned.Rows rows)) new.device in
-    (next, gone.1, calls_on_store s next (Scan from to) (row_replies rows) (none_where s true (Scan from to) (open_mode old s stands) refl) (record { answer = scanned.Rows rows; turn = (gone.0, refl); prints = refl }))
-
-pub scan_cut : (old new : CoreView) (from to : List ℕ) → TakesTurn old (Scanning from to scanned.OutOfMemory) new
-    → (s : State) → StandsFor old s → Leaves (view.Open new) (StoreCutShort s (Scan from to))
-scan_cut old new from to turns s stands =
-    let gone = turns.goes s stands in
-    let next = after s (Scanning from to scanned.OutOfMemory) new.device in
-    (next, open_device new next gone.1, partly_on_store s next (Scan from to) (none_where s true (Scan from to) (open_mode old s stands) refl) (gone.0, refl))
-
-pub scan_told : (old new : CoreView) (from to : List ℕ) (answer : Scanned) → TakesTurn old (Scanning from to answer) new → AreTold old.outcomes → AreTold new.outcomes
-scan_told old new from to answer turns told =
-    told_in new (after (state_at old) (Scanning from to answer) new.device) (turns.goes (state_at old) (stands_at old)).1 told
-
--- ---- answers of one reply
+-- a read leaves a core that stands for some state
+pub read_told : (old new : CoreView) (event : Event) → ((s : State) → behind s event ≡ s) → TakesRead old event new → StandsForSome old → StandsForSome new
+read_told old new event same turns some =
+    ∥∥₁_map some (λ (is : (s : State) × StandsFor old s × AreTold old.outcomes).
+    let before = forgotten is.0 in
+    let went = turns.goes before (forgotten_stands old is.0 is.1) tt in
+    let next = after before event new.device in
+    let told : AreTold is.0.writing.outcomes = told_by old is.0 is.1 is.2 in
+    (next, went.1, told_in new next went.1 (subst (λ (t : State). AreTold t.writing.outcomes) (sym (same before)) told)))
 
 no_err : {P : Type 0} (x : Answer) → IsErr (let r : Result Answer OutOfMemory = Ok x in r) → P
 no_err x h = absurd cc
 
-module _ (s : State) (command : Command) where
+module _ (options : Options) (old new : CoreView) (s : State) (stands : StandsFor old s) (borne : IsBorne s) where
+  pub read_run : (key : List ℕ) (answer : Got) (replies : List Reply) → TakesRead old (Getting key answer) new → reading_replies answer ≡ Some replies
+      → Leads (view.Open new) (CarriesOnStore options s (Get key) replies)
+  read_run key answer replies turns prints =
+      let gone = turns.goes s stands borne in
+      let next = after s (Getting key answer) new.device in
+      let run : GetRun s key replies next = record { answer = answer; turn = (gone.0, refl); prints = prints } in
+      (next, gone.1, calls_on_store options s next (Get key) replies (none_where s true (Get key) (open_mode old s stands) refl) run)
+
+  pub read_cut : (key : List ℕ) → TakesRead old (Getting key got.OutOfMemory) new → Leaves (view.Open new) (StoreCutShort options s (Get key))
+  read_cut key turns =
+      let gone = turns.goes s stands borne in
+      let next = after s (Getting key got.OutOfMemory) new.device in
+      (next, open_device new next gone.1, partly_on_store options s next (Get key) (none_where s true (Get key) (open_mode old s stands) refl) (gone.0, refl))
+
+  -- no read is refused for want of memory by a table
+  pub read_faulted : (key : List ℕ) (number : ℕ) (cause : TableFault) (r : Result Reply OutOfMemory) (a : Result Answer OutOfMemory)
+      → TakesRead old (Getting key (got.ReadFault number cause)) new → IfOk r (λ x. fault_replies number cause ≡ Some (x ∷ [])) → (IsErr r → cause ≡ fault.OutOfMemory)
+      → IfOk r (λ x. a ≡ Ok (answers.One x)) → (IsErr r → IsErr a) → CarriedOut options s (Get key) (view.Open new) a
+  read_faulted key number cause (Ok x) a turns printed cut ok err =
+      subst (CarriedOut options s (Get key) (view.Open new)) (sym ok) (read_run key (got.ReadFault number cause) (x ∷ []) turns printed)
+  read_faulted key number cause (Err e) (Ok y) turns printed cut ok err = no_err y (err refl)
+  read_faulted key number cause (Err e) (Err f) turns printed cut ok err =
+      absurd ((subst (λ (c : TableFault). TakesRead old (Getting key (got.ReadFault number c)) new) (cut refl) turns).goes s stands borne).0
+
+  -- ---- scans
+
+  scan_of : (from to : List ℕ) (answer : Scanned) (replies : List Reply) → TakesRead old (Scanning from to answer) new → scan_replies answer ≡ Some replies
+      → Leads (view.Open new) (CarriesOnStore options s (Scan from to) replies)
+  scan_of from to answer replies turns prints =
+      let gone = turns.goes s stands borne in
+      let next = after s (Scanning from to answer) new.device in
+      let run : ScanRun s from to replies next = record { answer = answer; turn = (gone.0, refl); prints = prints } in
+      (next, gone.1, calls_on_store options s next (Scan from to) replies (none_where s true (Scan from to) (open_mode old s stands) refl) run)
+
+  pub scan_run : (from to : List ℕ) (rows : List Row) → TakesRead old (Scanning from to (scanned.Rows rows)) new
+      → CarriedOut {E = OutOfMemory} options s (Scan from to) (view.Open new) (Ok (answers.Rows rows))
+  scan_run from to rows turns = scan_of from to (scanned.Rows rows) (row_replies rows) turns refl
+
+  pub scan_cut : (from to : List ℕ) → TakesRead old (Scanning from to scanned.OutOfMemory) new → Leaves (view.Open new) (StoreCutShort options s (Scan from to))
+  scan_cut from to turns =
+      let gone = turns.goes s stands borne in
+      let next = after s (Scanning from to scanned.OutOfMemory) new.device in
+      (next, open_device new next gone.1, partly_on_store options s next (Scan from to) (none_where s true (Scan from to) (open_mode old s stands) refl) (gone.0, refl))
+
+  pub scan_faulted : (from to : List ℕ) (number : ℕ) (cause : TableFault) (r : Result Reply OutOfMemory) (a : Result Answer OutOfMemory)
+      → TakesRead old (Scanning from to (scanned.ReadFault number cause)) new → IfOk r (λ x. fault_replies number cause ≡ Some (x ∷ [])) → (IsErr r → cause ≡ fault.OutOfMemory)
+      → IfOk r (λ x. a ≡ Ok (answers.One x)) → (IsErr r → IsErr a) → CarriedOut options s (Scan from to) (view.Open new) a
+  scan_faulted from to number cause (Ok x) a turns printed cut ok err =
+      subst (CarriedOut options s (Scan from to) (view.Open new)) (sym ok) (scan_of from to (scanned.ReadFault number cause) (x ∷ []) turns printed)
+  scan_faulted from to number cause (Err e) (Ok y) turns printed cut ok err = no_err y (err refl)
+  scan_faulted from to number cause (Err e) (Err f) turns printed cut ok err =
+      absurd ((subst (λ (c : TableFault). TakesRead old (Scanning from to (scanned.ReadFault number c)) new) (cut refl) turns).goes s stands borne).0
+
+-- ---- answers of one reply
+
+module _ (options : Options) (s : State) (command : Command) where
   pub answered : (new : CoreView) (r : Result Reply OutOfMemory) (a : Result Answer OutOfMemory) → IfOk r (λ x. a ≡ Ok (answers.One x)) → (IsErr r → IsErr a)
-      → IfOk r (λ x. CoreLeads new (CarriesOnStore s command (x ∷ []))) → OnErr r (CoreLeads new (StoreCutShort s command))
-      → CarriedOut s command (view.Open new) a
-  answered new (Ok x) a ok err carried cut = subst (CarriedOut s command (view.Open new)) (sym ok) carried
+      → IfOk r (λ x. CoreLeads new (CarriesOnStore options s command (x ∷ []))) → OnErr r (CoreLeads new (StoreCutShort options s command))
+      → CarriedOut options s command (view.Open new) a
+  answered new (Ok x) a ok err carried cut = subst (CarriedOut options s command (view.Open new)) (sym ok) carried
   answered new (Err e) (Ok y) ok err carried cut = no_err y (err refl)
   answered new (Err e) (Err f) ok err carried cut = (cut.0, open_device new cut.0 cut.1, cut.2)
 
   -- a command that is answered without a call
   pub rested : (store : StoreView) (reply_ : Reply) → Some reply_ ≡ rest_reply (is_one_open store) command → Stands store s
-      → CarriedOut {E = OutOfMemory} s command store (Ok (answers.One reply_))
-  rested store reply_ rests stands = (s, stands, rests_on_store s command reply_ (is_one_open store) (open_as store s stands) rests)
+      → CarriedOut {E = OutOfMemory} options s command store (Ok (answers.One reply_))
+  rested store reply_ rests stands = (s, stands, rests_on_store options s command reply_ (is_one_open store) (open_as store s stands) rests)
 
   -- memory ended before the command made a call
-  pub cut_before : (core : CoreView) (a : Result Answer OutOfMemory) → IsErr a → StandsFor core s → CarriedOut s command (view.Open core) a
+  pub cut_before : (core : CoreView) (a : Result Answer OutOfMemory) → IsErr a → StandsFor core s → CarriedOut options s command (view.Open core) a
   cut_before core (Ok y) err stands = no_err y err
   cut_before core (Err e) err stands = (s, open_device core s stands, inl refl)
 
@@ -161,32 +223,51 @@ map_err : {P Q : Type 0} (r : Result Reply OutOfMemory) → (P → Q) → OnErr 
 map_err (Ok x) f h = tt
 map_err (Err e) f h = f h
 
-module _ (s : State) (command : Command) (old new : CoreView) (r : Result Reply OutOfMemory) (a : Result Answer OutOfMemory) where
+module _ (options : Options) (s : State) (command : Command) (old new : CoreView) (r : Result Reply OutOfMemory) (a : Result Answer OutOfMemory) where
   pub called : (run : List Reply → State → Type 0) (partly : State → Type 0) → StandsFor old s → rest_reply true command ≡ None
-      → ((replies : List Reply) (next : State) → run replies next → Calls s command replies next)
-      → ((next : State) → partly next → (next ≡ s) ⊎ CallsPartly s command next)
+      → ((replies : List Reply) (next : State) → run replies next → Calls options s command replies next)
+      → ((next : State) → partly next → (next ≡ s) ⊎ CallsPartly options s command next)
       → IfOk r (λ x. a ≡ Ok (answers.One x)) → (IsErr r → IsErr a)
       → IfOk r (λ x. CoreLeads new (run (x ∷ []))) → OnErr r (CoreLeads new partly)
-      → CarriedOut s command (view.Open new) a
+      → CarriedOut options s command (view.Open new) a
   called run partly stands none calls cuts ok err carried cut =
       let at = none_where s true command (open_mode old s stands) none in
-      let cut_short : (next : State) → (next ≡ s) ⊎ CallsPartly s command next → StoreCutShort s command next =
-      λ next is. elim is [ inl same ↦ inl same | inr part ↦ partly_on_store s next command at part ] in
-      answered s command new r a ok err
-      (map_ok r (λ x leads. (leads.0, leads.1, calls_on_store s leads.0 command (x ∷ []) at (calls (x ∷ []) leads.0 leads.2))) carried)
+      let cut_short : (next : State) → (next ≡ s) ⊎ CallsPartly options s command next → StoreCutShort options s command next =
+      λ next is. elim is [ inl same ↦ inl same | inr part ↦ partly_on_store options s next command at part ] in
+      answered options s command new r a ok err
+      (map_ok r (λ x leads. (leads.0, leads.1, calls_on_store options s leads.0 command (x ∷ []) at (calls (x ∷ []) leads.0 leads.2))) carried)
       (map_err r (λ leads. (leads.0, leads.1, cut_short leads.0 (cuts leads.0 leads.2))) cut)
 
 -- ---- openings
 
-borne_out : (told : Option Told) (s : State) → told ≡ s.device.told → ReadsOnIn told s.story → IsBorneOut s
-borne_out None s is reads = absurd reads
-borne_out (Some told) s is reads = record {
+-- the device that a crash left is at rest
+crashed_rests : (phase : Phase) (leaving : Leaving) (told : Told) (s : State) → leaving ≡ Crashed → is_open phase ≡ false → KeptBy phase (is_left leaving) told.state s → IsAtRest told.state
+crashed_rests Booting leaving told s is shut h = cc
+crashed_rests machine.Open leaving told s is shut h = cc
+crashed_rests Shut Nothing told s is shut h = cc
+crashed_rests Shut Crashed told s is shut h = h.at_rest
+crashed_rests Shut Left told s is shut h = h.at_rest
+
+rests_where : (f : Footing) (leaving : Leaving) (told : Told) (s : State) → leaving ≡ s.mode.left → goes_on_from leaving f ≡ true → is_open s.mode.phase ≡ false
+    → IsCoveredBy f s.mode (Some told) s → IsAtRest told.state
+rests_where Unknown Nothing told s is goes shut h = cc
+rests_where Unknown Crashed told s is goes shut h = cc
+rests_where Unknown Left told s is goes shut h = cc
+rests_where Known Nothing told s is goes shut h = cc
+rests_where Known Left told s is goes shut h = cc
+rests_where Known Crashed told s is goes shut h = crashed_rests s.mode.phase s.mode.left told s (sym is) shut h
+
+borne_out : (told : Option Told) (s : State) → told ≡ s.device.told → ReadsOnIn told s.story → ((t : Told) → told ≡ Some t → IsAtRest t.state) → IsBorneOut s
+borne_out None s is reads rests = absurd reads
+borne_out (Some told) s is reads rests = record {
   no_limbo = reads.after_crash.none_in_limbo;
   all_firm = reads.after_crash.all_stay;
   told = told;
   is_told = sym is;
-  names = reads.names;
-  reads = reads.reads;
+  directory = directory_at_rest told.state (rests told refl);
+  reading = reads.reads.reading;
+  is_read = reads.reads.is_read;
+  has = reads.reads.has;
 }
 
 -- the device of a covered store bears out the story with which an opening goes on
@@ -194,36 +275,39 @@ pub expected : (s : State) → is_open s.mode.phase ≡ false → IsCovered s �
 expected s shut covered =
     elim (continues s.mode s.footing) as (λ b. continues s.mode s.footing ≡ b → WhereGoesOn b s) [
       | true ↦ λ goes. borne_out s.device.told s refl (covered_reads s shut goes covered)
+          (λ told is. rests_where s.footing s.mode.left told s refl goes shut (subst (λ (o : Option Told). IsCoveredBy s.footing s.mode o s) is covered))
       | false ↦ λ begins. tt
     ] refl
 
-module _ (s : State) where
-  pub opened_run : (core : CoreView) (shows : Seen) (seq : ℕ) → IsShut shows s → Opens s core → seq ≡ (point_in core).seq
-      → CarriedOut {E = OutOfMemory} s Open (view.Open core) (Ok (answers.One (reply.Opened seq)))
+module _ (options : Options) (s : State) where
+  pub opened_run : (core : CoreView) (shows : Seen) (seq : ℕ) → IsShut shows s → Opens s options core → seq ≡ last_in core
+      → CarriedOut {E = OutOfMemory} options s Open (view.Open core) (Ok (answers.One (reply.Opened seq)))
   opened_run core shows seq shut opens is =
-      let next = after s (Opening (Ok opens.found)) core.device in
-      let run = calls_on_store s next Open (reply.Opened opens.found.last_seq ∷ []) (none_where s false Open shut.shut refl)
+      let next = after s (Opening options (Ok opens.found)) core.device in
+      let run = calls_on_store options s next Open (reply.Opened opens.found.store.last_seq ∷ []) (none_where s false Open shut.shut refl)
       (record { answer = Ok opens.found; turn = (opens.answers, refl); prints = refl }) in
-      (next, opens.stands, subst (λ n. CarriesOnStore s Open (reply.Opened n ∷ []) next) (opens.last_is ∙ sym is) run)
+      (next, opens.stands, subst (λ n. CarriesOnStore options s Open (reply.Opened n ∷ []) next) (opens.last_is ∙ sym is) run)
 
   -- the state behind a refusal is as before, but for the device
-  pub refused_run : (behind before : Seen) (refused : OpenRefusal) (r : Result Reply OutOfMemory) (a : Result Answer OutOfMemory) → IsShut before s
-      → Answers s (Opening (Err refused)) behind
+  pub refused_run : (behind_ before : Seen) (refused : OpenRefusal) (r : Result Reply OutOfMemory) (a : Result Answer OutOfMemory) → IsShut before s
+      → Answers s (Opening options (Err refused)) behind_
       → IfOk r (λ x. opening_replies (Err refused) ≡ Some (x ∷ [])) → (IsErr r → refused ≡ refusal.OutOfMemory)
       → IfOk r (λ x. a ≡ Ok (answers.One x)) → (IsErr r → IsErr a)
-      → CarriedOut s Open (view.Closed behind) a
-  refused_run behind before refused (Ok x) a shut answers_ printed cut ok err =
-      let next = with_device behind s in
-      let run = calls_on_store s next Open (x ∷ []) (none_where s false Open shut.shut refl) (record { answer = Err refused; turn = (answers_, refl); prints = printed }) in
-      subst (CarriedOut s Open (view.Closed behind)) (sym ok) (next, record { shut = shut.shut; device = refl }, run)
-  refused_run behind before refused (Err e) (Ok y) shut answers_ printed cut ok err = no_err y (err refl)
-  refused_run behind before refused (Err e) (Err f) shut answers_ printed cut ok err =
-      let next = with_device behind s in
-      let want = subst (λ (o : OpenRefusal). Answers s (Opening (Err o)) behind) (cut refl) answers_ in
-      (next, refl, partly_on_store s next Open (none_where s false Open shut.shut refl) (want, refl))
+      → CarriedOut options s Open (view.Closed behind_) a
+  refused_run behind_ before refused (Ok x) a shut answers_ printed cut ok err =
+      let next = with_device behind_ s in
+      let run = calls_on_store options s next Open (x ∷ []) (none_where s false Open shut.shut refl) (record { answer = Err refused; turn = (answers_, refl); prints = printed }) in
+      subst (CarriedOut options s Open (view.Closed behind_)) (sym ok) (next, record { shut = shut.shut; device = refl }, run)
+  refused_run behind_ before refused (Err e) (Ok y) shut answers_ printed cut ok err = no_err y (err refl)
+  refused_run behind_ before refused (Err e) (Err f) shut answers_ printed cut ok err =
+      let next = with_device behind_ s in
+      let want = subst (λ (o : OpenRefusal). Answers s (Opening options (Err o)) behind_) (cut refl) answers_ in
+      (next, refl, partly_on_store options s next Open (none_where s false Open shut.shut refl) (want, refl))
 
-pub opened_told : (core : CoreView) (s : State) → Opens s core → AreTold core.outcomes
-opened_told core s opens = told_in core (after s (Opening (Ok opens.found)) core.device) opens.stands tt
+pub opened_told : (options : Options) (core : CoreView) (s : State) → Opens s options core → StandsForSome core
+opened_told options core s opens =
+    let next = after s (Opening options (Ok opens.found)) core.device in
+    ∣ (next, opens.stands, told_in core next opens.stands tt) ∣₁
 
 -- ---- listings
 
@@ -231,19 +315,18 @@ none_of_list : (is_one_open : Bool) → rest_reply is_one_open Files ≡ None
 none_of_list true = refl
 none_of_list false = refl
 
-module _ (s next : State) where
+module _ (options : Options) (s next : State) where
   pub listed : (store : StoreView) (is_one_open : Bool) (answer : Result (List Entry) DiskError) (a : Result Answer OutOfMemory) → is_open s.mode.phase ≡ is_one_open
       → Stands store next → Shows store next.device → Turn s (Listing answer) next
       → IfOk a (λ x. listing_replies answer ≡ Some (replies_of x)) → (IsErr a → answer ≡ Err disk.OutOfMemory)
-      → CarriedOut s Files store a
+      → CarriedOut options s Files store a
   listed store is_one_open answer (Ok x) is stands device turn printed cut =
-      (next, stands, calls_on_store s next Files (replies_of x) (none_where s is_one_open Files is (none_of_list is_one_open)) (record { answer = answer; turn = turn; prints = printed }))
+      (next, stands, calls_on_store options s next Files (replies_of x) (none_where s is_one_open Files is (none_of_list is_one_open)) (record { answer = answer; turn = turn; prints = printed }))
   listed store is_one_open answer (Err e) is stands device turn printed cut =
-      (next, device, partly_on_store s next Files (none_where s is_one_open Files is (none_of_list is_one_open)) (subst (λ (o : Result (List Entry) DiskError). Turn s (Listing o) next) (cut refl) turn))
+      (next, device, partly_on_store options s next Files (none_where s is_one_open Files is (none_of_list is_one_open)) (subst (λ (o : Result (List Entry) DiskError). Turn s (Listing o) next) (cut refl) turn))
 
-pub list_told : (old new : CoreView) (answer : Result (List Entry) DiskError) → TakesTurn old (Listing answer) new → AreTold old.outcomes → AreTold new.outcomes
-list_told old new answer turns told =
-    told_in new (after (state_at old) (Listing answer) new.device) (turns.goes (state_at old) (stands_at old)).1 told
+pub list_told : (old new : CoreView) (answer : Result (List Entry) DiskError) → TakesTurn old (Listing answer) new → StandsForSome old → StandsForSome new
+list_told old new answer turns told = stays_told old new (Listing answer) turns (λ s told_. told_) told
 
 -- ---- crashes
 
@@ -251,7 +334,7 @@ shut_behind : (s : State) (kept : Option ℕ) → is_open (crash_after s kept).m
 shut_behind s None = refl
 shut_behind s (Some count) = refl
 
-module _ (s : State) (dirops keep garbage seed : ℕ) where
+module _ (options : Options) (s : State) (dirops keep garbage seed : ℕ) where
   abbrev crash : Command
   crash = Crash dirops keep garbage seed
 
@@ -266,22 +349,22 @@ module _ (s : State) (dirops keep garbage seed : ℕ) where
       by false = refl
 
   pub crashed : (behind : Seen) → IsCovered s → Drops s picked behind
-      → CarriedOut {E = OutOfMemory} s crash (view.Closed behind) (Ok (answers.One reply.Crashed))
+      → CarriedOut {E = OutOfMemory} options s crash (view.Closed behind) (Ok (answers.One reply.Crashed))
   crashed behind covered drops =
       let left = crash_turns s picked behind covered drops in
       let next = after s (Crashing picked left.0) behind in
-      let run : Calls s crash (reply.Crashed ∷ []) next = subst (λ b. CrashRun b s picked (reply.Crashed ∷ []) next) (sym drops.simulated) (left.0, (left.1, refl), refl) in
-      (next, record { shut = shut_behind s left.0; device = refl }, calls_on_store s next crash (reply.Crashed ∷ []) none_of_crash run)
+      let run : Calls options s crash (reply.Crashed ∷ []) next = subst (λ b. CrashRun b s picked (reply.Crashed ∷ []) next) (sym drops.simulated) (left.0, (left.1, refl), refl) in
+      (next, record { shut = shut_behind s left.0; device = refl }, calls_on_store options s next crash (reply.Crashed ∷ []) none_of_crash run)
 
-  pub crash_cut : (behind : Seen) (e : OutOfMemory) → behind ≡ s.device → CarriedOut s crash (view.Closed behind) (Err e)
+  pub crash_cut : (behind : Seen) (e : OutOfMemory) → behind ≡ s.device → CarriedOut options s crash (view.Closed behind) (Err e)
   crash_cut behind e is = (s, is, inl refl)
 
-  not_crashed : s.device.simulated ≡ false → CarriesOnStore s crash (reply.NotSimulated ∷ []) s
+  not_crashed : s.device.simulated ≡ false → CarriesOnStore options s crash (reply.NotSimulated ∷ []) s
   not_crashed is =
-      let run : Calls s crash (reply.NotSimulated ∷ []) s = subst (λ b. CrashRun b s picked (reply.NotSimulated ∷ []) s) (sym is) (record { same = refl; prints = refl }) in
-      calls_on_store s s crash (reply.NotSimulated ∷ []) none_of_crash run
+      let run : Calls options s crash (reply.NotSimulated ∷ []) s = subst (λ b. CrashRun b s picked (reply.NotSimulated ∷ []) s) (sym is) (record { same = refl; prints = refl }) in
+      calls_on_store options s s crash (reply.NotSimulated ∷ []) none_of_crash run
 
-  pub not_crashed_on : (store : StoreView) → Stands store s → s.device.simulated ≡ false → CarriedOut {E = OutOfMemory} s crash store (Ok (answers.One reply.NotSimulated))
+  pub not_crashed_on : (store : StoreView) → Stands store s → s.device.simulated ≡ false → CarriedOut {E = OutOfMemory} options s crash store (Ok (answers.One reply.NotSimulated))
   not_crashed_on store stands is = (s, stands, not_crashed is)
 
 -- ---- what a device that was called shows
@@ -291,12 +374,12 @@ pub list_answers : (s : State) (before shows : Seen) (answer : Result (List Entr
 list_answers s before shows answer is tells order quiet = rw is (record { tells = tells; order = order; quiet = quiet })
 
 pub dropped : (s : State) (pick : Pick) (before shows : Seen) (done : Bool) → s.device ≡ before → before.simulated ≡ true → done ≡ before.simulated
-    → Crashes {E = OutOfMemory} before.told (Ok done) shows.told → IsArranged {E = OutOfMemory} (Crashed pick) before (Ok done) shows → Drops s pick shows
+    → Crashes {E = OutOfMemory} before.told (Ok done) shows.told → IsArranged {E = OutOfMemory} (arranged.Crashed pick) before (Ok done) shows → Drops s pick shows
 dropped s pick before shows done is simulated answered_ crash rest =
     let all : done ≡ true = answered_ ∙ simulated in record {
       simulated = rw is simulated;
       crash = rw is (subst (λ (b : Bool). Crashes {E = OutOfMemory} before.told (Ok b) shows.told) all crash);
-      rest = rw is (subst (λ (b : Bool). IsArranged {E = OutOfMemory} (Crashed pick) before (Ok b) shows) all rest);
+      rest = rw is (subst (λ (b : Bool). IsArranged {E = OutOfMemory} (arranged.Crashed pick) before (Ok b) shows) all rest);
     }
 
 -- a crash for which memory was wanting
@@ -310,6 +393,6 @@ same_seen : (before after : Seen) → after.told ≡ before.told → after.chang
 same_seen before after a b c d e f = λ i. record { told = a i; changes = b i; faults = c i; last_fault = d i; simulated = e i; arranged = f i }
 
 pub stayed : (pick : Pick) (before after : Seen) (e : OutOfMemory) → Crashes before.told (let r : Result Bool OutOfMemory = Err e in r) after.told
-    → IsArranged (Crashed pick) before (let r : Result Bool OutOfMemory = Err e in r) after → after ≡ before
+    → IsArranged (arranged.Crashed pick) before (let r : Result Bool OutOfMemory = Err e in r) after → after ≡ before
 stayed pick before after e crash rest =
     same_seen before after (not_crashed_told before.told after.told e crash) rest.count rest.faults rest.last_fault rest.simulated rest.arranged

@@ -77,7 +77,7 @@ module _ (V : Type 0) where
   on_store command old new replies is run = run
 
   pub drives : (old : Driver V) (store : StoreView) (answer : Result Answer OutOfMemory) (command : Command) (session : Session) → StandsAt old session → IsOnStore command
-      → CarriedOut session.store command store answer → Drives session command (with_values store old.settings old.tick) answer
+      → CarriedOut session.options session.store command store answer → Drives session command (with_values store old.settings old.tick) answer
   drives old store (Ok answer) command session stands is run =
       let next = with_store run.0 session in
       (next, record { store = run.1; options = stands.options; tick = stands.tick }, on_store command session next (replies_of answer) is (record { carries = run.2; rest = refl }))

@@ -87,6 +87,8 @@ stops_short line before after held holds lines runs footing may =
       device = run.device;
       recovers = run.recovers;
       inside = (run.inside.0, tt);
+      claim = run.claim;
+      reads = run.reads;
     }
 
 runs_out : (line : ℕ) (before after : Outside) → Reads (stop_at Refused line) AreFirst before after → Ends OutOfMemory before after

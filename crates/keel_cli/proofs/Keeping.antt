@@ -10,26 +10,30 @@ use Rattle.keel_machine.specs.declared.answers.Got.TheVariants as got
 use Rattle.keel_machine.specs.declared.answers.Scanned.TheVariants as scanned
 use Rattle.keel_machine.specs.declared.answers.Outcome.{Outcome}
 use Rattle.keel_machine.specs.declared.answers.Outcome.TheVariants as outcome
+use Rattle.keel_machine.specs.declared.steps.ResumeStep.{ResumeStep as BootStep}
+use Rattle.keel_machine.specs.declared.steps.ResumeStep.TheVariants as boot_step
 use Rattle.keel_machine.specs.declared.steps.WriteStep.{WriteStep}
 use Rattle.keel_machine.specs.declared.steps.WriteStep.TheVariants as step
 use Rattle.keel_machine.specs.States.{State, Mode}
-use Rattle.keel_machine.specs.Turns.{Event, Opening, Admitting, Writing, TakingOutcome, Getting, Scanning, Listing, Crashing, Turn}
-use Rattle.keel_reading.specs.declared.refusal.OpenRefusal.TheVariants as refusal
+use Rattle.keel_machine.specs.Turns.{Event, Opening, Admitting, Writing, Resuming, TakingOutcome, Getting, Scanning, Listing, Crashing, Turn}
+use Rattle.keel_base.specs.declared.options.Options.{Options}
+use Rattle.keel_open.specs.declared.refusal.OpenRefusal.TheVariants as refusal
+use Rattle.keel_resume.specs.Drafts.{Draft}
 use Rattle.keel_recovery.specs.Machine.{MayCall}
 use Rattle.keel_machine.specs.States.{is_open}
 use Rattle.keel_script.specs.declared.command.Command.{Command}
-use Rattle.keel_script.specs.declared.command.Command.TheVariants.{SetOption, Open, Put, Del, QueuePut, QueueDel, Write, Drain, Tick, Get, Scan, Files, Crash}
+use Rattle.keel_script.specs.declared.command.Command.TheVariants.{SetOption, Open, Put, Del, QueuePut, QueueDel, Write, ResumeStep, Drain, Tick, Get, Scan, Files, Crash}
 use Rattle.keel_script.specs.declared.reply.Reply.{Reply}
 use Rattle.keel_cli.specs.declared.lines.LineStop.{LineStop}
 use Rattle.keel_cli.specs.declared.lines.LineStop.TheVariants.{Refused, Unwritten, NoMemory}
 use Rattle.keel_cli.specs.declared.lines.StopPlace.{StopPlace}
 use Rattle.keel_cli.specs.Cuts.{StoreCutShort, CutShort}
-use Rattle.keel_cli.specs.Drains.{Moves, DrainRun, DrainCut}
+use Rattle.keel_cli.specs.Drains.{BootMoves, Round, Rounds, DrainRun, DrainCut}
 use Rattle.keel_cli.specs.LineEnds.{Progress, Stops, LinesEnd}
 use Rattle.keel_cli.specs.Puts.{put_batch, del_batch, PutRun, PutCut, QueueRun, Queues, Waits}
 use Rattle.keel_cli.specs.Runs.{rest_reply, CrashRun, Calls, RestsOrCalls, CarriesOnStore, SetRun, Carries, CallsPartly, Run}
 use Rattle.keel_cli.specs.Sessions.{Session}
-use Rattle.keel_cli.proofs.Modes.{mode_written, mode_admitted}
+use Rattle.keel_cli.proofs.Modes.{mode_written, mode_admitted, open_resumed}
 
 none_some : {A P : Type 0} (x : A) → Some x ≡ None → P
 none_some x e = cc
@@ -58,6 +62,12 @@ module _ (C : State → Type 0) (keep : (old new : State) (event : Event) → Ma
     kept = keep old new (TakingOutcome ticket outcome) is.opened turn is.kept;
   }
 
+  pub resumed : (old new : State) (drafts : List Draft) (held : Option ℕ) (made : BootStep) → Turn old (Resuming drafts held made) new → IsKept old → IsKept new
+  resumed old new drafts held made turn is = record {
+    opened = ap (λ (s : State). is_open s.mode.phase) turn.1 ∙ open_resumed old drafts made is.opened;
+    kept = keep old new (Resuming drafts held made) is.opened turn is.kept;
+  }
+
   -- ---- writes
 
   pub waited : (old new : State) (ticket : ℕ) (steps : List WriteStep) → Waits old ticket steps new → IsKept old → IsKept new
@@ -73,7 +83,7 @@ module _ (C : State → Type 0) (keep : (old new : State) (event : Event) → Ma
   put old new batch replies (inl refused) is = (admitted old new batch refused.answer refused.turn is).kept
   put old new batch replies (inr (inl settled)) is =
       (taken settled.last new settled.ticket settled.outcome settled.taken (queued old settled.last batch settled.ticket settled.steps settled.queues is)).kept
-  put old new batch replies (inr (inr waits)) is = (queued old new batch waits.ticket (step.Spent waits.counter ∷ waits.steps) waits.queues is).kept
+  put old new batch replies (inr (inr waits)) is = (queued old new batch waits.ticket (waits.step ∷ waits.steps) waits.queues is).kept
 
   put_cut : (old new : State) (batch : Batch) → PutCut old batch new → IsKept old → C new
   put_cut old new batch (inl turn) is = (admitted old new batch admit.OutOfMemory turn is).kept
@@ -85,16 +95,29 @@ module _ (C : State → Type 0) (keep : (old new : State) (event : Event) → Ma
 
   -- ---- drains
 
-  pub moved : (old new : State) (made : ℕ) → Moves old made new → IsKept old → IsKept new
-  moved old new zero same is = rw same is
-  moved old new (suc made) moves is = written moves.0 new None moves.1 moves.4 (moved old moves.0 made moves.2 is)
+  pub booted : (old new : State) (moves : ℕ) → BootMoves old moves new → IsKept old → IsKept new
+  booted old new moves boot is = resumed old new boot.drafts None boot.step boot.turn is
 
-  drained : (moves : ℕ) (old new : State) (replies : List Reply) → DrainRun moves old replies new → IsKept old → C new
-  drained moves old new replies (inl quiet) is = (written quiet.last new None quiet.step quiet.turn (moved old quiet.last quiet.made quiet.moved is)).kept
-  drained moves old new replies (inr more) is = (moved old new moves more.moved is).kept
+  gone_round : (limit made : ℕ) (old : State) (moves : ℕ) (new : State) → Round limit made old moves new → IsKept old → IsKept new
+  gone_round limit made old moves new round is = written round.mid new None round.write.step round.write.turn (booted old round.mid round.of_boot round.boot is)
 
-  drain_cut : (moves : ℕ) (old new : State) → DrainCut moves old new → IsKept old → C new
-  drain_cut moves old new cut is = (written cut.1 new None step.OutOfMemory cut.4 (moved old cut.1 cut.0 cut.3 is)).kept
+  pub went : (limit : ℕ) (old : State) (rounds made : ℕ) (new : State) → Rounds limit old rounds made new → IsKept old → IsKept new
+  went limit old zero made new same is = rw same.1 is
+  went limit old (suc rounds) made new gone is = gone_round limit gone.1 gone.0 gone.2 new gone.4 (went limit old rounds gone.1 gone.0 gone.3 is)
+
+  drained : (limit : ℕ) (old new : State) (replies : List Reply) → DrainRun limit old replies new → IsKept old → C new
+  drained limit old new replies (inl quiet) is =
+      (gone_round limit quiet.made quiet.last 0 new quiet.round (went limit old quiet.begun.rounds quiet.made quiet.last quiet.begun.went is)).kept
+  drained limit old new replies (inr (inl more)) is =
+      (booted more.last new more.of_boot more.boot (went limit old more.begun.rounds more.made more.last more.begun.went is)).kept
+  drained limit old new replies (inr (inr more)) is = (went limit old more.rounds limit new more.went is).kept
+
+  drain_cut : (limit : ℕ) (old new : State) → DrainCut limit old new → IsKept old → C new
+  drain_cut limit old new (inl cut) is =
+      (resumed cut.last new cut.drafts None boot_step.OutOfMemory cut.turn (went limit old cut.begun.rounds cut.made cut.last cut.begun.went is)).kept
+  drain_cut limit old new (inr cut) is =
+      let before = booted cut.last cut.mid cut.of_boot cut.boot (went limit old cut.begun.rounds cut.made cut.last cut.begun.went is) in
+      (written cut.mid new None step.OutOfMemory cut.turn before).kept
 
   -- ---- commands on the store
 
@@ -102,63 +125,68 @@ module _ (C : State → Type 0) (keep : (old new : State) (event : Event) → Ma
   crashed true old new pick replies run kept = keep old new (Crashing pick run.0) tt run.1 kept
   crashed false old new pick replies rests kept = rw rests.same kept
 
-  calls : (b : Bool) (old new : State) (command : Command) (replies : List Reply) → is_open old.mode.phase ≡ b → rest_reply b command ≡ None → Calls old command replies new → C old → C new
-  calls true old new Open replies opened none run kept = none_some _ none
-  calls false old new Open replies opened none run kept = keep old new (Opening run.answer) opened run.turn kept
-  calls true old new (Put key value sync) replies opened none run kept = put old new (put_batch key value sync) replies run (record { opened = opened; kept = kept })
-  calls false old new (Put key value sync) replies opened none run kept = none_some _ none
-  calls true old new (Del key sync) replies opened none run kept = put old new (del_batch key sync) replies run (record { opened = opened; kept = kept })
-  calls false old new (Del key sync) replies opened none run kept = none_some _ none
-  calls true old new (QueuePut client key value sync) replies opened none run kept = queued_alone old new (put_batch key value sync) replies run (record { opened = opened; kept = kept })
-  calls false old new (QueuePut client key value sync) replies opened none run kept = none_some _ none
-  calls true old new (QueueDel client key sync) replies opened none run kept = queued_alone old new (del_batch key sync) replies run (record { opened = opened; kept = kept })
-  calls false old new (QueueDel client key sync) replies opened none run kept = none_some _ none
-  calls true old new Write replies opened none run kept = (written old new None run.step run.turn (record { opened = opened; kept = kept })).kept
-  calls false old new Write replies opened none run kept = none_some _ none
-  calls true old new (Scan from to) replies opened none run kept = keep old new (Scanning from to run.answer) opened run.turn kept
-  calls false old new (Scan from to) replies opened none run kept = none_some _ none
-  calls true old new (Get key) replies opened none run kept = keep old new (Getting key run.answer) opened run.turn kept
-  calls false old new (Get key) replies opened none run kept = none_some _ none
-  calls true old new (Drain moves) replies opened none run kept = drained moves old new replies run (record { opened = opened; kept = kept })
-  calls false old new (Drain moves) replies opened none run kept = none_some _ none
-  calls b old new Files replies opened none run kept = keep old new (Listing run.answer) tt run.turn kept
-  calls b old new (Crash dirops keep_ garbage seed) replies opened none run kept =
+  calls : (options : Options) (b : Bool) (old new : State) (command : Command) (replies : List Reply) → is_open old.mode.phase ≡ b → rest_reply b command ≡ None → Calls options old command replies new → C old → C new
+  calls options true old new Open replies opened none run kept = none_some _ none
+  calls options false old new Open replies opened none run kept = keep old new (Opening options run.answer) opened run.turn kept
+  calls options true old new (Put key value sync) replies opened none run kept = put old new (put_batch key value sync) replies run (record { opened = opened; kept = kept })
+  calls options false old new (Put key value sync) replies opened none run kept = none_some _ none
+  calls options true old new (Del key sync) replies opened none run kept = put old new (del_batch key sync) replies run (record { opened = opened; kept = kept })
+  calls options false old new (Del key sync) replies opened none run kept = none_some _ none
+  calls options true old new (QueuePut client key value sync) replies opened none run kept = queued_alone old new (put_batch key value sync) replies run (record { opened = opened; kept = kept })
+  calls options false old new (QueuePut client key value sync) replies opened none run kept = none_some _ none
+  calls options true old new (QueueDel client key sync) replies opened none run kept = queued_alone old new (del_batch key sync) replies run (record { opened = opened; kept = kept })
+  calls options false old new (QueueDel client key sync) replies opened none run kept = none_some _ none
+  calls options true old new Write replies opened none run kept = (written old new None run.step run.turn (record { opened = opened; kept = kept })).kept
+  calls options false old new Write replies opened none run kept = none_some _ none
+  calls options true old new ResumeStep replies opened none run kept = (resumed old new run.drafts None run.step run.turn (record { opened = opened; kept = kept })).kept
+  calls options false old new ResumeStep replies opened none run kept = none_some _ none
+  calls options true old new (Scan from to) replies opened none run kept = keep old new (Scanning from to run.answer) opened run.turn kept
+  calls options false old new (Scan from to) replies opened none run kept = none_some _ none
+  calls options true old new (Get key) replies opened none run kept = keep old new (Getting key run.answer) opened run.turn kept
+  calls options false old new (Get key) replies opened none run kept = none_some _ none
+  calls options true old new (Drain moves) replies opened none run kept = drained moves old new replies run (record { opened = opened; kept = kept })
+  calls options false old new (Drain moves) replies opened none run kept = none_some _ none
+  calls options b old new Files replies opened none run kept = keep old new (Listing run.answer) tt run.turn kept
+  calls options b old new (Crash dirops keep_ garbage seed) replies opened none run kept =
       crashed old.device.simulated old new (record { dirops = dirops; keep = keep_; garbage = garbage; seed = seed }) replies run kept
-  calls b old new command replies opened none run kept = absurd run
+  calls options b old new command replies opened none run kept = absurd run
 
-  rests_or_calls : (r : Option Reply) (old new : State) (command : Command) (replies : List Reply) → rest_reply (is_open old.mode.phase) command ≡ r → RestsOrCalls r old command replies new → C old → C new
-  rests_or_calls None old new command replies is run kept = calls (is_open old.mode.phase) old new command replies refl is run kept
-  rests_or_calls (Some reply) old new command replies is rests kept = rw rests.same kept
+  rests_or_calls : (options : Options) (r : Option Reply) (old new : State) (command : Command) (replies : List Reply) → rest_reply (is_open old.mode.phase) command ≡ r
+      → RestsOrCalls options r old command replies new → C old → C new
+  rests_or_calls options None old new command replies is run kept = calls options (is_open old.mode.phase) old new command replies refl is run kept
+  rests_or_calls options (Some reply) old new command replies is rests kept = rw rests.same kept
 
-  on_store : (old new : State) (command : Command) (replies : List Reply) → CarriesOnStore old command replies new → C old → C new
-  on_store old new command replies run kept = rests_or_calls (rest_reply (is_open old.mode.phase) command) old new command replies refl run kept
+  on_store : (options : Options) (old new : State) (command : Command) (replies : List Reply) → CarriesOnStore options old command replies new → C old → C new
+  on_store options old new command replies run kept = rests_or_calls options (rest_reply (is_open old.mode.phase) command) old new command replies refl run kept
 
-  partly : (b : Bool) (old new : State) (command : Command) → is_open old.mode.phase ≡ b → rest_reply b command ≡ None → CallsPartly old command new → C old → C new
-  partly true old new Open opened none turn kept = none_some _ none
-  partly false old new Open opened none turn kept = keep old new (Opening (Err refusal.OutOfMemory)) opened turn kept
-  partly true old new (Put key value sync) opened none cut kept = put_cut old new (put_batch key value sync) cut (record { opened = opened; kept = kept })
-  partly false old new (Put key value sync) opened none cut kept = none_some _ none
-  partly true old new (Del key sync) opened none cut kept = put_cut old new (del_batch key sync) cut (record { opened = opened; kept = kept })
-  partly false old new (Del key sync) opened none cut kept = none_some _ none
-  partly true old new (QueuePut client key value sync) opened none turn kept = (admitted old new (put_batch key value sync) admit.OutOfMemory turn (record { opened = opened; kept = kept })).kept
-  partly false old new (QueuePut client key value sync) opened none turn kept = none_some _ none
-  partly true old new (QueueDel client key sync) opened none turn kept = (admitted old new (del_batch key sync) admit.OutOfMemory turn (record { opened = opened; kept = kept })).kept
-  partly false old new (QueueDel client key sync) opened none turn kept = none_some _ none
-  partly true old new Write opened none turn kept = (written old new None step.OutOfMemory turn (record { opened = opened; kept = kept })).kept
-  partly false old new Write opened none turn kept = none_some _ none
-  partly true old new (Scan from to) opened none turn kept = keep old new (Scanning from to scanned.OutOfMemory) opened turn kept
-  partly false old new (Scan from to) opened none turn kept = none_some _ none
-  partly true old new (Get key) opened none turn kept = keep old new (Getting key got.OutOfMemory) opened turn kept
-  partly false old new (Get key) opened none turn kept = none_some _ none
-  partly true old new (Drain moves) opened none cut kept = drain_cut moves old new cut (record { opened = opened; kept = kept })
-  partly false old new (Drain moves) opened none cut kept = none_some _ none
-  partly b old new Files opened none turn kept = keep old new (Listing (Err disk.OutOfMemory)) tt turn kept
-  partly b old new command opened none cut kept = absurd cut
+  partly : (options : Options) (b : Bool) (old new : State) (command : Command) → is_open old.mode.phase ≡ b → rest_reply b command ≡ None → CallsPartly options old command new → C old → C new
+  partly options true old new Open opened none turn kept = none_some _ none
+  partly options false old new Open opened none turn kept = keep old new (Opening options (Err refusal.OutOfMemory)) opened turn kept
+  partly options true old new (Put key value sync) opened none cut kept = put_cut old new (put_batch key value sync) cut (record { opened = opened; kept = kept })
+  partly options false old new (Put key value sync) opened none cut kept = none_some _ none
+  partly options true old new (Del key sync) opened none cut kept = put_cut old new (del_batch key sync) cut (record { opened = opened; kept = kept })
+  partly options false old new (Del key sync) opened none cut kept = none_some _ none
+  partly options true old new (QueuePut client key value sync) opened none turn kept = (admitted old new (put_batch key value sync) admit.OutOfMemory turn (record { opened = opened; kept = kept })).kept
+  partly options false old new (QueuePut client key value sync) opened none turn kept = none_some _ none
+  partly options true old new (QueueDel client key sync) opened none turn kept = (admitted old new (del_batch key sync) admit.OutOfMemory turn (record { opened = opened; kept = kept })).kept
+  partly options false old new (QueueDel client key sync) opened none turn kept = none_some _ none
+  partly options true old new Write opened none turn kept = (written old new None step.OutOfMemory turn (record { opened = opened; kept = kept })).kept
+  partly options false old new Write opened none turn kept = none_some _ none
+  partly options true old new ResumeStep opened none cut kept = (resumed old new cut.0 None boot_step.OutOfMemory cut.1 (record { opened = opened; kept = kept })).kept
+  partly options false old new ResumeStep opened none cut kept = none_some _ none
+  partly options true old new (Scan from to) opened none turn kept = keep old new (Scanning from to scanned.OutOfMemory) opened turn kept
+  partly options false old new (Scan from to) opened none turn kept = none_some _ none
+  partly options true old new (Get key) opened none turn kept = keep old new (Getting key got.OutOfMemory) opened turn kept
+  partly options false old new (Get key) opened none turn kept = none_some _ none
+  partly options true old new (Drain moves) opened none cut kept = drain_cut moves old new cut (record { opened = opened; kept = kept })
+  partly options false old new (Drain moves) opened none cut kept = none_some _ none
+  partly options b old new Files opened none turn kept = keep old new (Listing (Err disk.OutOfMemory)) tt turn kept
+  partly options b old new command opened none cut kept = absurd cut
 
-  store_cut : (old new : State) (command : Command) → StoreCutShort old command new → C old → C new
-  store_cut old new command (inl same) kept = rw same kept
-  store_cut old new command (inr (inl carries)) kept = on_store old new command carries.0 carries.1 kept
-  store_cut old new command (inr (inr cut)) kept = partly (is_open old.mode.phase) old new command refl cut.0 cut.1 kept
+  store_cut : (options : Options) (old new : State) (command : Command) → StoreCutShort options old command new → C old → C new
+  store_cut options old new command (inl same) kept = rw same kept
+  store_cut options old new command (inr (inl carries)) kept = on_store options old new command carries.0 carries.1 kept
+  store_cut options old new command (inr (inr cut)) kept = partly options (is_open old.mode.phase) old new command refl cut.0 cut.1 kept
 
   -- ---- commands of a session
 
@@ -173,13 +201,13 @@ module _ (C : State → Type 0) (keep : (old new : State) (event : Event) → Ma
   pub carried : (old new : Session) (command : Command) (replies : List Reply) → Carries old command replies new → C old.store → C new.store
   carried old new (SetOption name value) replies run kept = set (is_open old.store.mode.phase) old new name value replies run kept
   carried old new (Tick ticks) replies run kept = same_store old new (ap (λ (s : Session). s.store) run.passes) kept
-  carried old new command replies run kept = on_store old.store new.store command replies run.carries kept
+  carried old new command replies run kept = on_store old.options old.store new.store command replies run.carries kept
 
   cut : (old new : Session) (command : Command) → CutShort old command new → C old.store → C new.store
-  cut old new command (inl short) kept = store_cut old.store new.store command short.cut kept
+  cut old new command (inl short) kept = store_cut old.options old.store new.store command short.cut kept
   cut old new command (inr carries) kept = carried old new command carries.0 carries.1 kept
 
-  run : (commands : List Command) (old new : Session) (replies : List Reply) → Run old commands replies new → C old.store → C new.store
+  pub run : (commands : List Command) (old new : Session) (replies : List Reply) → Run old commands replies new → C old.store → C new.store
   run [] old new replies same kept = same_store old new (ap (λ (s : Session). s.store) same.0) kept
   run (command ∷ commands) old new replies runs kept = run commands runs.0 new runs.2 runs.4 (carried old runs.0 command runs.1 runs.3 kept)
 
@@ -188,7 +216,7 @@ module _ (C : State → Type 0) (keep : (old new : State) (event : Event) → Ma
 
   -- ---- ends
 
-  stopped : (stop : LineStop) (old new : Session) (held holds : Option (List ℕ)) (line : List ℕ) → Stops stop old held line new holds → C old.store → C new.store
+  pub stopped : (stop : LineStop) (old new : Session) (held holds : Option (List ℕ)) (line : List ℕ) → Stops stop old held line new holds → C old.store → C new.store
   stopped Refused old new held holds line stops kept = same_store old new (ap (λ (s : Session). s.store) stops.1) kept
   stopped Unwritten old new held holds line stops kept = carried old new stops.0 stops.2.replies stops.2.carries kept
   stopped NoMemory old new held holds line (inl same, quiet) kept = same_store old new (ap (λ (s : Session). s.store) same) kept

@@ -12,6 +12,16 @@ pub mod Ending
 pub mod Modes
 pub mod Keeping
 pub mod Each
+pub mod Flooring
+pub mod Acking
+pub mod Claiming
+pub mod Ledger
+pub mod Following
+pub mod Owning
+pub mod OwnSteps
+pub mod OwnPut
+pub mod Unused
+pub mod Showing
 pub mod Recovering
 pub mod Running
 pub mod Streaming

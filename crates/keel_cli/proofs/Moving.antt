@@ -1,57 +1,146 @@
 -- The steps of a drain, from one core to the next.
-use Rattle.std.proofs.Common.{◌≡◌, ℕ, ◌+◌, ◌<◌, Some, None, Result, Ok, Err, refl, subst, inl, inr, add-one}
+use Rattle.std.proofs.Common.{◌≡◌, ℕ, ◌+◌, ◌<◌, ◌≤◌, suc, [], ◌∷◌, Some, None, Result, Ok, Err, refl, subst, inl, inr}
 use Rattle.std.specs.Prelude.{IfOk, IsErr, OnErr}
 use Rattle.keel_base.specs.declared.memory.OutOfMemory.{OutOfMemory as no_memory}
+use Rattle.keel_machine.specs.declared.steps.ResumeStep.{ResumeStep}
+use Rattle.keel_machine.specs.declared.steps.ResumeStep.TheVariants as boot_steps
 use Rattle.keel_machine.specs.declared.steps.WriteStep.{WriteStep}
-use Rattle.keel_machine.specs.declared.steps.WriteStep.TheVariants.{OutOfMemory}
 use Rattle.keel_machine.specs.declared.steps.WriteStep.TheVariants as steps
 use Rattle.keel_machine.specs.States.{State}
-use Rattle.keel_machine.specs.Turns.{Turn, Writing, after}
+use Rattle.keel_machine.specs.Turns.{Resuming, Writing, after}
+use Rattle.keel_core.specs.Resuming.{ResumesTurn}
 use Rattle.keel_core.specs.Views.{CoreView, StandsFor, TakesTurn}
 use Rattle.keel_script.specs.declared.reply.Reply.{Reply}
 use Rattle.keel_script.specs.declared.reply.Reply.TheVariants.{Quiet, More}
+use Rattle.keel_cli.specs.Boots.{BootRun, BootCut, boot_replies}
 use Rattle.keel_cli.specs.Writes.{WriteRun, WriteCut, step_replies}
-use Rattle.std.proofs.Common.{[], ◌∷◌}
-use Rattle.keel_cli.specs.Drains.{IsRest, IsMove, Moves, DrainRun, DrainCut}
-use Rattle.keel_cli.specs.Stores.{AreTold, CoreLeads}
-use Rattle.keel_cli.proofs.Tickets.{state_at, stands_at, told_in, write_told}
+use Rattle.keel_cli.specs.Drains.{moves_of_boot, moves_of_write, BootMoves, Begun, Round, Rounds, DrainRun, DrainCut}
+use Rattle.keel_cli.specs.Stores.{CoreLeads, StandsForSome}
+use Rattle.keel_cli.proofs.Modes.{told_resumed}
+use Rattle.keel_cli.proofs.Tickets.{stays_told, write_told}
 
--- so many moves were made since the first core
-abbrev pub Gone : CoreView → ℕ → CoreView → Type 0
-Gone first made core = (s : State) → StandsFor first s → CoreLeads core (Moves s made)
+-- ---- steps of the boot and of the writer leave outcomes told
 
-stepped : (first core new : CoreView) (made : ℕ) (step : WriteStep) → Gone first made core → TakesTurn core (Writing None step) new → (s : State) → StandsFor first s
-    → (last : State) × (next : State) × Moves s made last × Turn last (Writing None step) next × StandsFor new next
-stepped first core new made step gone turns s stands =
+pub step_told : (core new : CoreView) (step : WriteStep) → TakesTurn core (Writing None step) new → StandsForSome core → StandsForSome new
+step_told core new step turns told = stays_told core new (Writing None step) turns (λ s. write_told step s) told
+
+pub boot_told : (core new : CoreView) (step : ResumeStep) → ResumesTurn core None step new → StandsForSome core → StandsForSome new
+boot_told core new step turns told = stays_told core new (Resuming turns.drafts None step) turns.turn (λ s. told_resumed s turns.drafts step) told
+
+-- ---- rounds
+
+-- rounds made so many moves since the first core
+abbrev pub Gone : ℕ → CoreView → ℕ → CoreView → Type 0
+Gone limit first made core = (s : State) → StandsFor first s → CoreLeads core (λ now. (rounds : ℕ) × Rounds limit s rounds made now)
+
+pub none_gone : (limit : ℕ) (first : CoreView) → Gone limit first 0 first
+none_gone limit first s stands = (s, stands, (0, (refl, refl)))
+
+-- Behind rounds that leave moves the boot made a step.
+abbrev pub Booted : ℕ → CoreView → ℕ → ℕ → CoreView → Type 0
+Booted limit first made of_boot core =
+    (s : State) → StandsFor first s → CoreLeads core (λ now. (last : State) × Begun limit s made last × BootMoves last of_boot now)
+
+pub booted : (limit : ℕ) (first core new : CoreView) (made of_boot : ℕ) (step : ResumeStep) → Gone limit first made core → made < limit → ResumesTurn core None step new
+    → moves_of_boot step ≡ Some of_boot → Booted limit first made of_boot new
+booted limit first core new made of_boot step gone fewer turns moves s stands =
+    let before = gone s stands in
+    let went = turns.turn.goes before.0 before.1 in (
+      after before.0 (Resuming turns.drafts None step) new.device,
+      went.1,
+      (
+        before.0,
+        record { rounds = before.2.0; went = before.2.1; fewer = fewer },
+        record { step = step; drafts = turns.drafts; turn = (went.0, refl); moves_are = moves },
+      ),
+    )
+
+-- then the writer made one
+pub round_of : (limit : ℕ) (first mid new : CoreView) (made of_boot of_write : ℕ) (step : WriteStep) → Booted limit first made of_boot mid → made + of_boot < limit
+    → TakesTurn mid (Writing None step) new → moves_of_write step ≡ Some of_write → (s : State) → StandsFor first s
+    → CoreLeads new (λ now. (last : State) × Begun limit s made last × Round limit made last (of_boot + of_write) now)
+round_of limit first mid new made of_boot of_write step gone left turns moves s stands =
     let before = gone s stands in
     let went = turns.goes before.0 before.1 in
-    (before.0, after before.0 (Writing None step) new.device, before.2, (went.0, refl), went.1)
+    let next = after before.0 (Writing None step) new.device in (
+      next,
+      went.1,
+      (
+        before.2.0,
+        before.2.1,
+        record {
+          mid = before.0;
+          of_boot = of_boot;
+          of_write = of_write;
+          boot = before.2.2;
+          left = left;
+          write = record { step = step; turn = (went.0, refl); moves_are = moves };
+          moves_are = refl;
+        },
+      ),
+    )
 
-pub moved_on : (first core new : CoreView) (made : ℕ) (step : WriteStep) → Gone first made core → TakesTurn core (Writing None step) new → IsMove step → Gone first (made + 1) new
-moved_on first core new made step gone turns moves s stands =
-    let at = stepped first core new made step gone turns s stands in
-    rw add-one (at.1, at.4, (at.0, step, at.2, moves, at.3))
+pub round_gone : (limit : ℕ) (first new : CoreView) (made moves : ℕ) → 1 ≤ moves
+    → ((s : State) → StandsFor first s → CoreLeads new (λ now. (last : State) × Begun limit s made last × Round limit made last moves now))
+    → Gone limit first (made + moves) new
+round_gone limit first new made moves some went s stands =
+    let at = went s stands in
+    (at.0, at.1, (suc at.2.1.rounds, (at.2.0, made, moves, at.2.1.went, at.2.2, some, refl)))
 
-pub quiet_run : (first core new : CoreView) (made moves : ℕ) (step : WriteStep) → Gone first made core → TakesTurn core (Writing None step) new → IsRest step → made < moves
-    → (s : State) → StandsFor first s → CoreLeads new (DrainRun moves s (Quiet ∷ []))
-quiet_run first core new made moves step gone turns rests fewer s stands =
-    let at = stepped first core new made step gone turns s stands in
-    (at.1, at.4, inl (record { made = made; fewer = fewer; last = at.0; moved = at.2; step = step; rests = rests; turn = at.3; prints = refl }))
+pub quiet_run : (limit : ℕ) (first new : CoreView) (made moves : ℕ) → moves ≡ 0
+    → ((s : State) → StandsFor first s → CoreLeads new (λ now. (last : State) × Begun limit s made last × Round limit made last moves now))
+    → (s : State) → StandsFor first s → CoreLeads new (DrainRun limit s (Quiet ∷ []))
+quiet_run limit first new made moves none went s stands =
+    let at = went s stands in
+    (at.0, at.1, inl (record { made = made; last = at.2.0; begun = at.2.1; round = subst (λ n. Round limit made at.2.0 n at.0) none at.2.2; prints = refl }))
 
-pub more_run : (first core : CoreView) (made moves : ℕ) → Gone first made core → made ≡ moves → (s : State) → StandsFor first s → CoreLeads core (DrainRun moves s (More ∷ []))
-more_run first core made moves gone all s stands =
-    let at = subst (λ n. CoreLeads core (Moves s n)) all (gone s stands) in
-    (at.0, at.1, inr (record { moved = at.2; prints = refl }))
+pub more_by_boot : (limit : ℕ) (first new : CoreView) (made of_boot : ℕ) → Booted limit first made of_boot new → made + of_boot ≡ limit
+    → (s : State) → StandsFor first s → CoreLeads new (DrainRun limit s (More ∷ []))
+more_by_boot limit first new made of_boot gone all s stands =
+    let at = gone s stands in
+    (at.0, at.1, inr (inl (record { made = made; last = at.2.0; begun = at.2.1; of_boot = of_boot; boot = at.2.2; all = all; prints = refl })))
 
-pub want_cut : (first core new : CoreView) (made moves : ℕ) → Gone first made core → TakesTurn core (Writing None OutOfMemory) new → made < moves
-    → (s : State) → StandsFor first s → CoreLeads new (DrainCut moves s)
-want_cut first core new made moves gone turns fewer s stands =
-    let at = stepped first core new made OutOfMemory gone turns s stands in
-    (at.1, at.4, (made, at.0, fewer, at.2, at.3))
+pub more_run : (limit : ℕ) (first core : CoreView) (made : ℕ) → Gone limit first made core → made ≡ limit → (s : State) → StandsFor first s → CoreLeads core (DrainRun limit s (More ∷ []))
+more_run limit first core made gone all s stands =
+    let at = gone s stands in
+    (at.0, at.1, inr (inr (record { rounds = at.2.0; went = subst (λ n. Rounds limit s at.2.0 n at.0) all at.2.1; prints = refl })))
 
-pub step_told : (core new : CoreView) (step : WriteStep) → TakesTurn core (Writing None step) new → AreTold core.outcomes → AreTold new.outcomes
-step_told core new step turns told =
-    told_in new (after (state_at core) (Writing None step) new.device) (turns.goes (state_at core) (stands_at core)).1 (write_told step (state_at core) told)
+-- ---- want of memory
+
+pub boot_wants : (limit : ℕ) (first core new : CoreView) (made : ℕ) → Gone limit first made core → made < limit → ResumesTurn core None boot_steps.OutOfMemory new
+    → (s : State) → StandsFor first s → CoreLeads new (DrainCut limit s)
+boot_wants limit first core new made gone fewer turns s stands =
+    let before = gone s stands in
+    let went = turns.turn.goes before.0 before.1 in (
+      after before.0 (Resuming turns.drafts None boot_steps.OutOfMemory) new.device,
+      went.1,
+      inl (record {
+        made = made;
+        last = before.0;
+        begun = record { rounds = before.2.0; went = before.2.1; fewer = fewer };
+        drafts = turns.drafts;
+        turn = (went.0, refl);
+      }),
+    )
+
+pub write_wants : (limit : ℕ) (first mid new : CoreView) (made of_boot : ℕ) → Booted limit first made of_boot mid → made + of_boot < limit → TakesTurn mid (Writing None steps.OutOfMemory) new
+    → (s : State) → StandsFor first s → CoreLeads new (DrainCut limit s)
+write_wants limit first mid new made of_boot gone left turns s stands =
+    let before = gone s stands in
+    let went = turns.goes before.0 before.1 in (
+      after before.0 (Writing None steps.OutOfMemory) new.device,
+      went.1,
+      inr (record {
+        made = made;
+        last = before.2.0;
+        begun = before.2.1;
+        of_boot = of_boot;
+        mid = before.0;
+        boot = before.2.2;
+        left = left;
+        turn = (went.0, refl);
+      }),
+    )
 
 -- ---- one step as a command
 
@@ -69,3 +158,18 @@ write_cut old new step (Err e) turns cut s stands =
     let want = subst (λ (made : WriteStep). TakesTurn old (Writing None made) new) (cut refl) turns in
     let went = want.goes s stands in
     (after s (Writing None steps.OutOfMemory) new.device, went.1, (went.0, refl))
+
+pub boot_run : (old new : CoreView) (step : ResumeStep) (r : Result Reply no_memory) → ResumesTurn old None step new → IfOk r (λ x. boot_replies step ≡ Some (x ∷ []))
+    → (s : State) → StandsFor old s → IfOk r (λ x. CoreLeads new (BootRun s (x ∷ [])))
+boot_run old new step (Ok x) turns printed s stands =
+    let went = turns.turn.goes s stands in
+    (after s (Resuming turns.drafts None step) new.device, went.1, record { step = step; drafts = turns.drafts; turn = (went.0, refl); prints = printed })
+boot_run old new step (Err e) turns printed s stands = tt
+
+pub boot_cut : (old new : CoreView) (step : ResumeStep) (r : Result Reply no_memory) → ResumesTurn old None step new → (IsErr r → step ≡ boot_steps.OutOfMemory)
+    → (s : State) → StandsFor old s → OnErr r (CoreLeads new (BootCut s))
+boot_cut old new step (Ok x) turns cut s stands = tt
+boot_cut old new step (Err e) turns cut s stands =
+    let want = subst (λ (made : ResumeStep). ResumesTurn old None made new) (cut refl) turns in
+    let went = want.turn.goes s stands in
+    (after s (Resuming want.drafts None boot_steps.OutOfMemory) new.device, went.1, (want.drafts, (went.0, refl)))

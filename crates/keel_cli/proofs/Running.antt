@@ -3,14 +3,13 @@ use Rattle.std.proofs.Common.{◌≡◌, ℕ, ◌+◌, Option, None, List, [], �
 use Rattle.keel_disk.specs.Seen.{Seen}
 use Rattle.keel_machine.specs.States.{Footing}
 use Rattle.keel_recovery.specs.Machine.{IsCovered}
-use Rattle.keel_recovery.proofs.Machine.{turn_keeps}
 use Rattle.keel_cli.specs.declared.lines.LineStop.{LineStop}
 use Rattle.keel_cli.specs.Ends.{LinesRun, stop_at}
 use Rattle.keel_cli.specs.LineEnds.{Progress, Stops, StopsAt}
 use Rattle.keel_cli.specs.Sessions.{Session, Begins, MayBegin}
 use Rattle.keel_cli.proofs.GoingOn.{Appends-none, Progress-append}
 use Rattle.keel_cli.proofs.Keeping.{progressed}
-use Rattle.keel_cli.proofs.Recovering.{first_covered, recovers, safe_inside}
+use Rattle.keel_cli.proofs.Recovering.{first_covered, recovers, safe_inside, claims, reads, turns_keep}
 
 -- from a beginning on this footing, these lines were carried out
 pub record RunsSoFar (footing : Footing) (handed_in : Seen) (held : Option (List ℕ)) (lines : List (List ℕ)) (holds : Option (List ℕ)) (now : Session) : Type 0 where
@@ -34,7 +33,7 @@ module _ (footing : Footing) (handed_in : Seen) (held : Option (List ℕ)) where
     first = runs.first;
     begins = runs.begins;
     progress = Progress-append runs.first now new held between holds lines (line ∷ []) runs.progress ends;
-    covered = progressed IsCovered turn_keeps now new between holds (line ∷ []) ends runs.covered;
+    covered = progressed IsCovered turns_keep now new between holds (line ∷ []) ends runs.covered;
   }
 
   -- the run ends on this device, behind the lines or at a stop at one more
@@ -62,6 +61,8 @@ module _ (footing : Footing) (handed_in : Seen) (held : Option (List ℕ)) where
           device = device;
           recovers = recovers (stop_at stop number) footing handed_in runs.first new held holds (lines ++ line ∷ []) may runs.begins stops;
           inside = safe_inside (stop_at stop number) footing handed_in runs.first new held holds (lines ++ line ∷ []) may runs.begins stops;
+          claim = claims (stop_at stop number) footing handed_in runs.first new held holds (lines ++ line ∷ []) may runs.begins stops;
+          reads = reads (stop_at stop number) footing handed_in runs.first new held holds (lines ++ line ∷ []) may runs.begins stops;
         }
 
     pub run_ends : (lines : List (List ℕ)) (holds : Option (List ℕ)) (now : Session) → handed_back ≡ now.store.device
@@ -74,4 +75,6 @@ module _ (footing : Footing) (handed_in : Seen) (held : Option (List ℕ)) where
       device = device;
       recovers = recovers None footing handed_in runs.first now held holds lines may runs.begins runs.progress;
       inside = safe_inside None footing handed_in runs.first now held holds lines may runs.begins runs.progress;
+      claim = claims None footing handed_in runs.first now held holds lines may runs.begins runs.progress;
+      reads = reads None footing handed_in runs.first now held holds lines may runs.begins runs.progress;
     }

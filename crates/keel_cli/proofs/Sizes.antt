@@ -16,14 +16,16 @@ use Rattle.keel_machine.specs.States.{State}
 use Rattle.keel_machine.specs.Tests.{first_some, when}
 
 -- none of the later tests names a size
-no_size : (failure : Option Failure) (sequence ticket full : Bool) (waits n : ℕ)
-    → first_some (option_map admit.Stopped failure ∷ when sequence (admit.Spent Sequence) ∷ when ticket (admit.Spent Ticket) ∷ when full (admit.QueueFull waits) ∷ [])
-    ≡ Some (admit.BadSize part.Batch n) → ⊥
-no_size (Some failure) sequence ticket full waits n is = absurd cc
-no_size None true ticket full waits n is = absurd cc
-no_size None false true full waits n is = absurd cc
-no_size None false false true waits n is = absurd cc
-no_size None false false false waits n is = absurd cc
+no_size : (boots : Bool) (failure : Option Failure) (sequence ticket full many : Bool) (weight others waits n : ℕ)
+    → first_some (when boots admit.Booting ∷ option_map admit.Stopped failure ∷ when sequence (admit.Spent Sequence) ∷ when ticket (admit.Spent Ticket)
+    ∷ when full (admit.Full weight others) ∷ when many (admit.QueueFull waits) ∷ []) ≡ Some (admit.BadSize part.Batch n) → ⊥
+no_size true failure sequence ticket full many weight others waits n is = absurd cc
+no_size false (Some failure) sequence ticket full many weight others waits n is = absurd cc
+no_size false None true ticket full many weight others waits n is = absurd cc
+no_size false None false true full many weight others waits n is = absurd cc
+no_size false None false false true many weight others waits n is = absurd cc
+no_size false None false false false true weight others waits n is = absurd cc
+no_size false None false false false false weight others waits n is = absurd cc
 
 -- ---- the tests of sizes
 
@@ -90,5 +92,5 @@ one_op_fits s batch n one is =
     let tests = in_order (size_refusal batch) _ (admit.BadSize part.Batch n) is in
     elim tests [
       | inl sizes ↦ op_sizes first.0 batch.sync n (subst (λ (ops : List Op). size_refusal (record { ops = ops; sync = batch.sync }) ≡ Some (admit.BadSize part.Batch n)) first.1 sizes)
-      | inr later ↦ no_size (stopping s) _ _ _ (length s.writing.waiting) n later
+      | inr later ↦ no_size _ (stopping s) _ _ _ _ _ _ (length s.writing.waiting) n later
     ]

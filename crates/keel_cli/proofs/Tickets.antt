@@ -1,5 +1,5 @@
 -- What becomes of a ticket in the turns of the machine.
-use Rattle.std.proofs.Common.{◌≡◌, ◌≢◌, ◌⊎◌, ℕ, ◌+◌, ◌==◌, ◌||◌, Bool, true, false, cond, List, [], ◌∷◌, ◌++◌, map, find, filter, length, drop, ap, Option, Some, None, IsSome, IfSome, option_map, unwrap_or, if◌then◌else◌, refl, sym, ◌∙◌, subst, inl, inr, arith, append-nil, eq-eqb}
+use Rattle.std.proofs.Common.{◌≡◌, ◌≢◌, ◌⊎◌, ℕ, ◌+◌, ◌==◌, ◌||◌, Bool, true, false, cond, List, [], ◌∷◌, ◌++◌, map, find, filter, length, drop, ap, Option, Some, None, IsSome, IfSome, option_map, unwrap_or, if◌then◌else◌, refl, sym, ◌∙◌, subst, inl, inr, append-nil, eq-eqb}
 use Rattle.std.proofs.lemmas.List.{map-append}
 use Rattle.std.specs.List.{list_any}
 use Rattle.std.proofs.lemmas.List.Folds.{list_any-append}
@@ -13,30 +13,13 @@ use Rattle.keel_group.proofs.Dividing.{all_of}
 use Rattle.keel_base.specs.declared.op.Op.{Op}
 use Rattle.keel_machine.specs.Admission.{last_seq, tickets_of_group, outcome_kept, is_on_its_way, outcome_of, queued}
 use Rattle.keel_group.specs.Queue.{Ticketed}
-use Rattle.keel_machine.specs.States.{State, Group, Act, MakeLog, SyncDirectory, AddRecords, SyncLog, left_of}
+use Rattle.keel_machine.specs.States.{State, Group, Act, CloseLog, MakeLog, SyncDirectory, AddRecords, SyncLog, left_of}
 use Rattle.keel_machine.specs.Writing.{ready, started_or, group_bytes}
-use Rattle.keel_machine.specs.WritingAfter.{done_each, seq_behind, file_drawn, with_made, with_logs, logs_made, log_longer, batches_handed, goes_on, act_done, act_failed, first_done, first_failed, group_done, group_failed, call_done, call_failed, queue_turned, write_after}
-use Rattle.keel_core.specs.Views.{CoreView, StandsFor, AreAlike, state_of, own_state, nothing_beyond}
-use Rattle.keel_cli.specs.Stores.{IsTold, AreTold}
-
--- ---- a state that the core stands for
-
-abbrev pub state_at : CoreView → State
-state_at view = own_state view
-
-alike_itself : (group : Option Group) → AreAlike group group
-alike_itself None = tt
-alike_itself (Some group) = record { tickets = refl; batches = refl; log = refl; left = refl }
-
-pub stands_at : (view : CoreView) → StandsFor view (state_at view)
-stands_at view = record {
-  beyond = nothing_beyond view;
-  state_is = refl;
-  fits = record {
-    story = record { earlier = []; start_is = refl; log_is = refl; limbo_is = refl; floor_is = omega arith };
-    group = alike_itself view.group;
-  };
-}
+use Rattle.keel_machine.specs.WritingAfter.{done_each, seq_behind, file_drawn, with_made, with_log, switched, log_longer, batches_handed, goes_on, act_done, act_failed, first_done, first_failed, group_done, group_failed, call_done, call_failed, queue_turned, write_after}
+use Rattle.keel_core.specs.Views.{CoreView, StandsFor, TakesTurn}
+use Rattle.keel_machine.specs.Turns.{Event, after, behind}
+use Rattle.keel_cli.specs.Stores.{CoreLeads, IsTold, AreTold, StandsForSome}
+use Rattle.std.proofs.Math.Logic.{∥∥₁_map}
 
 -- ---- lists of tickets and of outcomes
 
@@ -157,18 +140,27 @@ goes_on_fine ticket sync group [] s told holds = record {
 }
 goes_on_fine ticket sync group (act ∷ later) s told holds = record { told = told; known = inl holds }
 
+switched_fine : (ticket : ℕ) (log : Option ℕ) (group : Group) (later : List Act) (s : State)
+    → AreTold s.writing.outcomes → any ticket (group.tickets ++ waiting_tickets s) ≡ true → Fine ticket (goes_on false (with_made None group) later (switched log s))
+switched_fine ticket None group later s told holds = goes_on_fine ticket false (with_made None group) later s told holds
+switched_fine ticket (Some number) group later s told holds = goes_on_fine ticket false (with_made None group) later (switched (Some number) s) told holds
+
 act_done_fine : (ticket : ℕ) (act : Act) (group : Group) (later : List Act) (s : State)
     → AreTold s.writing.outcomes → any ticket (group.tickets ++ waiting_tickets s) ≡ true → Fine ticket (act_done act group later s)
+act_done_fine ticket CloseLog group later s told holds = goes_on_fine ticket false group later s told holds
 act_done_fine ticket MakeLog group later s told holds = goes_on_fine ticket false (with_made (Some s.numbers.next_file) group) later (file_drawn s) told holds
-act_done_fine ticket SyncDirectory group later s told holds =
-    goes_on_fine ticket false (with_made None group) later (with_logs (logs_made group.progress.log) s) told holds
+act_done_fine ticket SyncDirectory group later s told holds = switched_fine ticket group.progress.log group later s told holds
 act_done_fine ticket AddRecords group later s told holds =
     goes_on_fine ticket false (record group { batches = [] }) later
-    (batches_handed group (with_logs (log_longer (length (group_bytes s group)) s.segments.active.logs) s)) told holds
+    (batches_handed group (with_log (log_longer (length (group_bytes s group)) s.segments.active.log) s)) told holds
 act_done_fine ticket SyncLog group later s told holds = goes_on_fine ticket true group later s told holds
 
 act_failed_fine : (ticket : ℕ) (act : Act) (group : Group) (failure : Failure) (s : State)
     → AreTold s.writing.outcomes → any ticket (group.tickets ++ waiting_tickets s) ≡ true → Fine ticket (act_failed act group failure s)
+act_failed_fine ticket CloseLog group failure s told holds = record {
+  told = told_append s.writing.outcomes _ told (told_given (outcome.Failed failure) group.tickets tt);
+  known = settled_known ticket (outcome.Failed failure) group.tickets (waiting_tickets s) s.writing.outcomes holds;
+}
 act_failed_fine ticket MakeLog group failure s told holds = record {
   told = told_append s.writing.outcomes _ told (told_given (outcome.Failed failure) group.tickets tt);
   known = settled_known ticket (outcome.Failed failure) group.tickets (waiting_tickets s) s.writing.outcomes holds;
@@ -257,6 +249,7 @@ write_fine ticket (step.Done job seq batches) s told holds = done_fine ticket s 
 write_fine ticket (step.Failed failure) s told holds = failed_fine ticket failure s told holds
 write_fine ticket (step.Turned batches failure) s told holds = turned_fine ticket failure s told holds
 write_fine ticket step.Idle s told holds = record { told = told; known = inl holds }
+write_fine ticket (step.Full active immutables) s told holds = record { told = told; known = inl holds }
 write_fine ticket (step.Spent counter) s told holds = record { told = told; known = inl holds }
 write_fine ticket (step.Cancelled job current) s told holds = record { told = told; known = inl holds }
 write_fine ticket step.OutOfMemory s told holds = record { told = told; known = inl holds }
@@ -267,15 +260,22 @@ goes_on_told : (sync : Bool) (group : Group) (later : List Act) (s : State) → 
 goes_on_told sync group [] s told = told_append s.writing.outcomes _ told (told_done (last_seq s) group.tickets s.story.limbo)
 goes_on_told sync group (act ∷ later) s told = told
 
+switched_told : (log : Option ℕ) (group : Group) (later : List Act) (s : State) → AreTold s.writing.outcomes
+    → AreTold (goes_on false (with_made None group) later (switched log s)).writing.outcomes
+switched_told None group later s told = goes_on_told false (with_made None group) later s told
+switched_told (Some number) group later s told = goes_on_told false (with_made None group) later (switched (Some number) s) told
+
 act_done_told : (act : Act) (group : Group) (later : List Act) (s : State) → AreTold s.writing.outcomes → AreTold (act_done act group later s).writing.outcomes
+act_done_told CloseLog group later s told = goes_on_told false group later s told
 act_done_told MakeLog group later s told = goes_on_told false (with_made (Some s.numbers.next_file) group) later (file_drawn s) told
-act_done_told SyncDirectory group later s told = goes_on_told false (with_made None group) later (with_logs (logs_made group.progress.log) s) told
+act_done_told SyncDirectory group later s told = switched_told group.progress.log group later s told
 act_done_told AddRecords group later s told =
     goes_on_told false (record group { batches = [] }) later
-    (batches_handed group (with_logs (log_longer (length (group_bytes s group)) s.segments.active.logs) s)) told
+    (batches_handed group (with_log (log_longer (length (group_bytes s group)) s.segments.active.log) s)) told
 act_done_told SyncLog group later s told = goes_on_told true group later s told
 
 act_failed_told : (act : Act) (group : Group) (failure : Failure) (s : State) → AreTold s.writing.outcomes → AreTold (act_failed act group failure s).writing.outcomes
+act_failed_told CloseLog group failure s told = told_append s.writing.outcomes _ told (told_given (outcome.Failed failure) group.tickets tt)
 act_failed_told MakeLog group failure s told = told_append s.writing.outcomes _ told (told_given (outcome.Failed failure) group.tickets tt)
 act_failed_told SyncDirectory group failure s told = told_append s.writing.outcomes _ told (told_given (outcome.Failed failure) group.tickets tt)
 act_failed_told AddRecords group failure s told = told_append s.writing.outcomes _ told (told_given (outcome.Failed failure) group.tickets tt)
@@ -303,6 +303,7 @@ write_told (step.Done job seq batches) s told = group_done_told (ready s).jobs.w
 write_told (step.Failed failure) s told = group_failed_told (ready s).jobs.write.running failure (ready s) (ready_told s.jobs.write.running s.writing.waiting s refl told)
 write_told (step.Turned batches failure) s told = told_append s.writing.outcomes _ told (told_given (outcome.Turned failure) (waiting_tickets s) tt)
 write_told step.Idle s told = told
+write_told (step.Full active immutables) s told = told
 write_told (step.Spent counter) s told = told
 write_told (step.Cancelled job current) s told = told
 write_told step.OutOfMemory s told = told
@@ -360,24 +361,28 @@ waits_known ticket s told same =
 
 -- ---- from states to cores
 
-abbrev pub KnownIn : ℕ → CoreView → Type 0
-KnownIn ticket view = Known ticket (state_at view)
-
-alike_tickets : (group running : Option Group) → AreAlike group running → tickets_of_group running ≡ tickets_of_group group
-alike_tickets None None alike = refl
-alike_tickets None (Some running) alike = absurd alike
-alike_tickets (Some group) None alike = absurd alike
-alike_tickets (Some group) (Some running) alike = alike.tickets
-
--- a core that stands for a fine state is fine
-pub fine_in : (ticket : ℕ) (view : CoreView) (s : State) → StandsFor view s → Fine ticket s → AreTold view.outcomes × KnownIn ticket view
-fine_in ticket view s stands fine =
-    let at : Fine ticket (state_of view stands.beyond) = subst (Fine ticket) stands.state_is fine in
-    let same = alike_tickets view.group stands.beyond.running stands.fits.group in (
-      at.told,
-      subst (λ (tickets : List ℕ). (any ticket (tickets ++ map (λ (member : Ticketed). member.ticket) view.waiting) ≡ true) ⊎ IsSome (outcome_kept ticket view.outcomes))
-          same at.known,
-    )
+outcomes_in : (view : CoreView) (s : State) → StandsFor view s → s.writing.outcomes ≡ view.outcomes
+outcomes_in view s stands = ap (λ (t : State). t.writing.outcomes) stands.state_is
 
 pub told_in : (view : CoreView) (s : State) → StandsFor view s → AreTold s.writing.outcomes → AreTold view.outcomes
-told_in view s stands told = subst (λ (t : State). AreTold t.writing.outcomes) stands.state_is told
+told_in view s stands told = subst AreTold (outcomes_in view s stands) told
+
+pub told_by : (view : CoreView) (s : State) → StandsFor view s → AreTold view.outcomes → AreTold s.writing.outcomes
+told_by view s stands told = subst AreTold (sym (outcomes_in view s stands)) told
+
+-- a turn that leaves outcomes told leaves a core that stands for some state
+pub stays_told : (old new : CoreView) (event : Event) → TakesTurn old event new
+    → ((s : State) → AreTold s.writing.outcomes → AreTold (behind s event).writing.outcomes) → StandsForSome old → StandsForSome new
+stays_told old new event turns keeps some =
+    ∥∥₁_map some (λ (is : (s : State) × StandsFor old s × AreTold old.outcomes).
+    let went = turns.goes is.0 is.1 in
+    let next = after is.0 event new.device in
+    (next, went.1, told_in new next went.1 (keeps is.0 (told_by old is.0 is.1 is.2))))
+
+-- the core stands for a state in which the ticket is fine
+abbrev pub KnownIn : ℕ → CoreView → Type 0
+KnownIn ticket view = ∥ CoreLeads view (Fine ticket) ∥₁
+
+pub known_told : (ticket : ℕ) (view : CoreView) → KnownIn ticket view → StandsForSome view
+known_told ticket view known =
+    ∥∥₁_map known (λ (is : CoreLeads view (Fine ticket)). (is.0, is.1, told_in view is.0 is.1 is.2.told))

@@ -1,49 +1,109 @@
--- How a drain is carried out: steps of the one actor that there is, the writer.
-use Rattle.std.specs.Prelude.{◌≡◌, ◌⊎◌, ℕ, zero, suc, ◌<◌, List, [], ◌∷◌, None}
+-- How a drain is carried out: rounds of a step of the boot and then one of the writer.
+use Rattle.std.specs.Prelude.{◌≡◌, ◌⊎◌, ℕ, ◌+◌, zero, suc, ◌<◌, ◌≤◌, List, [], ◌∷◌, Option, Some, None}
+use Rattle.keel_machine.specs.declared.steps.ResumeStep.{ResumeStep}
+use Rattle.keel_machine.specs.declared.steps.ResumeStep.TheVariants as boot_step
 use Rattle.keel_machine.specs.declared.steps.WriteStep.{WriteStep}
-use Rattle.keel_machine.specs.declared.steps.WriteStep.TheVariants.{Idle, Spent, OutOfMemory}
+use Rattle.keel_machine.specs.declared.steps.WriteStep.TheVariants as step
 use Rattle.keel_machine.specs.States.{State}
-use Rattle.keel_machine.specs.Turns.{Turn, Writing}
+use Rattle.keel_machine.specs.Turns.{Turn, Resuming, Writing}
+use Rattle.keel_resume.specs.Drafts.{Draft}
 use Rattle.keel_script.specs.declared.reply.Reply.{Reply}
 use Rattle.keel_script.specs.declared.reply.Reply.TheVariants.{Quiet, More}
 
--- the writer rests: it has nothing to do, or a counter is at its end
-abbrev pub IsRest : WriteStep → Type 0
-IsRest Idle = Unit {0}
-IsRest (Spent counter) = Unit {0}
-IsRest step = ⊥
+-- How many moves a step was: none where its actor rests, with nothing to do or no way to do it. Want of memory is neither.
+abbrev pub moves_of_boot : ResumeStep → Option ℕ
+moves_of_boot boot_step.Idle = Some 0
+moves_of_boot (boot_step.Spent counter) = Some 0
+moves_of_boot boot_step.OutOfMemory = None
+moves_of_boot step = Some 1
 
--- the step did something
-abbrev pub IsMove : WriteStep → Type 0
-IsMove Idle = ⊥
-IsMove (Spent counter) = ⊥
-IsMove OutOfMemory = ⊥
-IsMove step = Unit {0}
+abbrev pub moves_of_write : WriteStep → Option ℕ
+moves_of_write step.Idle = Some 0
+moves_of_write (step.Full active immutables) = Some 0
+moves_of_write (step.Spent counter) = Some 0
+moves_of_write step.OutOfMemory = None
+moves_of_write step = Some 1
 
--- so many moves were made, the last of which comes first
-abbrev pub Moves : State → ℕ → State → Type 0
-Moves old zero new = new ≡ old
-Moves old (suc made) new = (mid : State) × (step : WriteStep) × Moves old made mid × IsMove step × Turn mid (Writing None step) new
+-- a step of the boot of so many moves
+pub record BootMoves (old : State) (moves : ℕ) (new : State) : Type 0 where
+  pub step : ResumeStep
+  pub drafts : List Draft
+  pub turn : Turn old (Resuming drafts None step) new
+  pub moves_are : moves_of_boot step ≡ Some moves
 
--- behind fewer moves than were asked for, the writer rests
-pub record DrainsQuiet (moves : ℕ) (old : State) (replies : List Reply) (new : State) : Type 0 where
-  pub made : ℕ
-  pub fewer : made < moves
-  pub last : State
-  pub moved : Moves old made last
+-- the same of the writer
+pub record WriteMoves (old : State) (moves : ℕ) (new : State) : Type 0 where
   pub step : WriteStep
-  pub rests : IsRest step
-  pub turn : Turn last (Writing None step) new
+  pub turn : Turn old (Writing None step) new
+  pub moves_are : moves_of_write step ≡ Some moves
+
+-- A round behind so many moves: the boot makes a step, and where that leaves moves the writer makes one.
+pub record Round (limit made : ℕ) (old : State) (moves : ℕ) (new : State) : Type 0 where
+  pub mid : State
+  pub of_boot : ℕ
+  pub of_write : ℕ
+  pub boot : BootMoves old of_boot mid
+  pub left : made + of_boot < limit
+  pub write : WriteMoves mid of_write new
+  pub moves_are : moves ≡ of_boot + of_write
+
+-- So many rounds made so many moves, one at least in each. The last of them comes first.
+abbrev pub Rounds : ℕ → State → ℕ → ℕ → State → Type 0
+Rounds limit old zero made new = (made ≡ 0) × (new ≡ old)
+Rounds limit old (suc rounds) made new =
+    (mid : State) × (before : ℕ) × (moves : ℕ) × Rounds limit old rounds before mid × Round limit before mid moves new × (1 ≤ moves) × (made ≡ before + moves)
+
+-- rounds that leave moves
+pub record Begun (limit : ℕ) (old : State) (made : ℕ) (last : State) : Type 0 where
+  pub rounds : ℕ
+  pub went : Rounds limit old rounds made last
+  pub fewer : made < limit
+
+-- behind fewer moves than were asked for, both rest in a whole round
+pub record DrainsQuiet (limit : ℕ) (old : State) (replies : List Reply) (new : State) : Type 0 where
+  pub made : ℕ
+  pub last : State
+  pub begun : Begun limit old made last
+  pub round : Round limit made last 0 new
   pub prints : replies ≡ Quiet ∷ []
 
--- all moves that were asked for were made
-pub record DrainsMore (moves : ℕ) (old : State) (replies : List Reply) (new : State) : Type 0 where
-  pub moved : Moves old moves new
+-- a step of the boot made the last move that was asked for
+pub record DrainsByBoot (limit : ℕ) (old : State) (replies : List Reply) (new : State) : Type 0 where
+  pub made : ℕ
+  pub last : State
+  pub begun : Begun limit old made last
+  pub of_boot : ℕ
+  pub boot : BootMoves last of_boot new
+  pub all : made + of_boot ≡ limit
+  pub prints : replies ≡ More ∷ []
+
+-- rounds made all moves that were asked for
+pub record DrainsMore (limit : ℕ) (old : State) (replies : List Reply) (new : State) : Type 0 where
+  pub rounds : ℕ
+  pub went : Rounds limit old rounds limit new
   pub prints : replies ≡ More ∷ []
 
 abbrev pub DrainRun : ℕ → State → List Reply → State → Type 0
-DrainRun moves old replies new = DrainsQuiet moves old replies new ⊎ DrainsMore moves old replies new
+DrainRun limit old replies new = DrainsQuiet limit old replies new ⊎ (DrainsByBoot limit old replies new ⊎ DrainsMore limit old replies new)
 
--- memory ended at a step behind some moves
+-- memory ended at a step of the boot
+pub record BootWants (limit : ℕ) (old new : State) : Type 0 where
+  pub made : ℕ
+  pub last : State
+  pub begun : Begun limit old made last
+  pub drafts : List Draft
+  pub turn : Turn last (Resuming drafts None boot_step.OutOfMemory) new
+
+-- or at one of the writer
+pub record WriteWants (limit : ℕ) (old new : State) : Type 0 where
+  pub made : ℕ
+  pub last : State
+  pub begun : Begun limit old made last
+  pub of_boot : ℕ
+  pub mid : State
+  pub boot : BootMoves last of_boot mid
+  pub left : made + of_boot < limit
+  pub turn : Turn mid (Writing None step.OutOfMemory) new
+
 abbrev pub DrainCut : ℕ → State → State → Type 0
-DrainCut moves old new = (made : ℕ) × (last : State) × (made < moves) × Moves old made last × Turn last (Writing None OutOfMemory) new
+DrainCut limit old new = BootWants limit old new ⊎ WriteWants limit old new

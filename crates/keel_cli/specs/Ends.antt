@@ -5,7 +5,7 @@ use Rattle.std.specs.Io.KnownBytes.{Appends, IsAtEnd}
 use Rattle.keel_base.specs.Counts.{Rose}
 use Rattle.keel_base.specs.Streams.{AppendsPart}
 use Rattle.keel_disk.specs.Seen.{Seen}
-use Rattle.keel_machine.specs.States.{Footing}
+use Rattle.keel_machine.specs.States.{Footing, Known}
 use Rattle.keel_lines.specs.declared.line.LineEnd.{LineEnd}
 use Rattle.keel_lines.specs.declared.line.LineEnd.TheVariants as line_end
 use Rattle.keel_lines.specs.Inputs.{AreFirst, AreAll, AreBeforeLong, AreWithin, AreTaken}
@@ -15,8 +15,10 @@ use Rattle.keel_cli.specs.declared.lines.StopPlace.{StopPlace}
 use Rattle.keel_cli.specs.declared.lines.LineStop.{LineStop}
 use Rattle.keel_cli.specs.declared.lines.LineStop.TheVariants.{Refused, Unwritten, NoMemory}
 use Rattle.keel_cli.specs.Sessions.{Session, Begins, MayBegin}
-use Rattle.keel_cli.specs.Standing.{Recovers}
-use Rattle.keel_recovery.specs.Machine.{StepIsSafe}
+use Rattle.keel_cli.specs.Standing.{NoneForged, Recovers, TurnIsSafe}
+use Rattle.keel_cli.specs.Answers.{answered_in}
+use Rattle.keel_cli.specs.Claim.{NothingLost}
+use Rattle.keel_cli.specs.ReadClaim.{ReadsRight}
 use Rattle.keel_cli.specs.Inside.{EachEnd}
 use Rattle.keel_cli.specs.LineEnds.{LinesEnd}
 
@@ -29,7 +31,9 @@ pub record Outside : Type 0 where
   pub device : Seen
 
 -- From a beginning on this device, lines end so on the device that is handed back, and what it stands for. A crash inside
--- the call of any step on the way leaves a first part of the logged writes, with every acknowledged synced one.
+-- the call of any step on the way leaves a first part of the logged writes, with every acknowledged synced one. On a known
+-- device of which no crash left a forged image, no opening is behind a synced write that was acknowledged, and each read of
+-- a key shows its last write, where that was acknowledged and no opening dropped it.
 pub record LinesRun (stop : Option StopPlace) (footing : Footing) (handed_in : Seen) (held : Option (List ℕ)) (lines : List (List ℕ)) (handed_back : Seen) (holds : Option (List ℕ)) : Type 0 where
   pub first : Session
   pub begins : Begins footing handed_in first
@@ -37,7 +41,9 @@ pub record LinesRun (stop : Option StopPlace) (footing : Footing) (handed_in : S
   pub ends : LinesEnd stop first held lines last holds
   pub device : handed_back ≡ last.store.device
   pub recovers : Recovers footing handed_in.told last.store
-  pub inside : EachEnd StepIsSafe stop first held lines last holds ends
+  pub inside : EachEnd TurnIsSafe stop first held lines last holds ends
+  pub claim : footing ≡ Known → NoneForged handed_in.told last.store.device.told → NothingLost (answered_in stop first held lines last holds ends)
+  pub reads : footing ≡ Known → NoneForged handed_in.told last.store.device.told → ReadsRight (answered_in stop first held lines last holds ends)
 
 -- so it is on each footing on which the run may begin
 abbrev pub LinesRuns : Option StopPlace → Seen → Option (List ℕ) → List (List ℕ) → Seen → Option (List ℕ) → Type 0

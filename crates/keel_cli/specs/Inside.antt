@@ -1,85 +1,105 @@
--- What each write step of a run has.
+-- What each write step and each resume step of a run has.
 use Rattle.std.specs.Prelude.{ℕ, zero, suc, Option, None, Some, List, [], ◌∷◌}
 use Rattle.std.proofs.Common.{inl, inr}
 use Rattle.keel_base.specs.declared.op.Batch.{Batch}
+use Rattle.keel_base.specs.declared.options.Options.{Options}
+use Rattle.keel_machine.specs.declared.steps.ResumeStep.TheVariants as boot_step
 use Rattle.keel_machine.specs.declared.steps.WriteStep.{WriteStep}
 use Rattle.keel_machine.specs.declared.steps.WriteStep.TheVariants as step
 use Rattle.keel_machine.specs.States.{State}
+use Rattle.keel_machine.specs.Turns.{Event, Resuming, Writing}
 use Rattle.keel_machine.specs.States.{is_open}
 use Rattle.keel_script.specs.declared.command.Command.{Command}
-use Rattle.keel_script.specs.declared.command.Command.TheVariants.{SetOption, Put, Del, Write, Drain, Tick}
+use Rattle.keel_script.specs.declared.command.Command.TheVariants.{SetOption, Put, Del, Write, ResumeStep, Drain, Tick}
 use Rattle.keel_script.specs.declared.reply.Reply.{Reply}
 use Rattle.keel_cli.specs.declared.lines.LineStop.{LineStop}
 use Rattle.keel_cli.specs.declared.lines.LineStop.TheVariants.{Refused, Unwritten, NoMemory}
 use Rattle.keel_cli.specs.declared.lines.StopPlace.{StopPlace}
 use Rattle.keel_cli.specs.Cuts.{StoreCutShort, CutShort}
-use Rattle.keel_cli.specs.Drains.{Moves, DrainRun}
+use Rattle.keel_cli.specs.Drains.{Round, Rounds, DrainRun, DrainCut}
 use Rattle.keel_cli.specs.LineEnds.{Stops, LinesEnd}
 use Rattle.keel_cli.specs.Puts.{put_batch, del_batch, Waits, PutRun, PutCut}
 use Rattle.keel_cli.specs.Runs.{Calls, RestsOrCalls, rest_reply, Carries, CallsPartly, Run}
 use Rattle.keel_cli.specs.Sessions.{Session}
 
--- what is said of a write step, by the state before it, its answer and the state behind it
+-- what is said of a step, by the state before it, the step with its answer, and the state behind it
 abbrev pub OfStep : Type 1
-OfStep = State → WriteStep → State → Type 0
+OfStep = State → Event → State → Type 0
 
 -- each of these steps has it
 abbrev pub EachWait : (Has : OfStep) (old : State) (ticket : ℕ) (steps : List WriteStep) (new : State) → Waits old ticket steps new → Type 0
 EachWait Has old ticket [] new same = Unit {0}
-EachWait Has old ticket (made ∷ earlier) new waits = EachWait Has old ticket earlier waits.0 waits.2 × Has waits.1 made new
+EachWait Has old ticket (made ∷ earlier) new waits = EachWait Has old ticket earlier waits.0 waits.2 × Has waits.1 (Writing None made) new
 
 abbrev pub EachPut : (Has : OfStep) (old : State) (batch : Batch) (replies : List Reply) (new : State) → PutRun old batch replies new → Type 0
 EachPut Has old batch replies new (inl refused) = Unit {0}
 EachPut Has old batch replies new (inr (inl settled)) = EachWait Has settled.queues.mid settled.ticket settled.steps settled.last settled.queues.waits
-EachPut Has old batch replies new (inr (inr waits)) = EachWait Has waits.queues.mid waits.ticket (step.Spent waits.counter ∷ waits.steps) new waits.queues.waits
+EachPut Has old batch replies new (inr (inr waits)) = EachWait Has waits.queues.mid waits.ticket (waits.step ∷ waits.steps) new waits.queues.waits
 
 abbrev pub EachPutCut : (Has : OfStep) (old : State) (batch : Batch) (new : State) → PutCut old batch new → Type 0
 EachPutCut Has old batch new (inl turn) = Unit {0}
 EachPutCut Has old batch new (inr cut) = EachWait Has cut.2.mid cut.0 (step.OutOfMemory ∷ cut.1) new cut.2.waits
 
-abbrev pub EachMove : (Has : OfStep) (old : State) (made : ℕ) (new : State) → Moves old made new → Type 0
-EachMove Has old zero new same = Unit {0}
-EachMove Has old (suc made) new moves = EachMove Has old made moves.0 moves.2 × Has moves.0 moves.1 new
+abbrev pub EachOfRound : (Has : OfStep) (limit made : ℕ) (old : State) (moves : ℕ) (new : State) → Round limit made old moves new → Type 0
+EachOfRound Has limit made old moves new round =
+    Has old (Resuming round.boot.drafts None round.boot.step) round.mid × Has round.mid (Writing None round.write.step) new
 
-abbrev pub EachDrain : (Has : OfStep) (moves : ℕ) (old : State) (replies : List Reply) (new : State) → DrainRun moves old replies new → Type 0
-EachDrain Has moves old replies new (inl quiet) = EachMove Has old quiet.made quiet.last quiet.moved × Has quiet.last quiet.step new
-EachDrain Has moves old replies new (inr more) = EachMove Has old moves new more.moved
+abbrev pub EachRound : (Has : OfStep) (limit : ℕ) (old : State) (rounds made : ℕ) (new : State) → Rounds limit old rounds made new → Type 0
+EachRound Has limit old zero made new same = Unit {0}
+EachRound Has limit old (suc rounds) made new went =
+    EachRound Has limit old rounds went.1 went.0 went.3 × EachOfRound Has limit went.1 went.0 went.2 new went.4
 
--- each write step that a command made
-abbrev pub EachCall : (Has : OfStep) (old : State) (command : Command) (replies : List Reply) (new : State) → Calls old command replies new → Type 0
-EachCall Has old (Put key value sync) replies new run = EachPut Has old (put_batch key value sync) replies new run
-EachCall Has old (Del key sync) replies new run = EachPut Has old (del_batch key sync) replies new run
-EachCall Has old Write replies new run = Has old run.step new
-EachCall Has old (Drain moves) replies new run = EachDrain Has moves old replies new run
-EachCall Has old command replies new run = Unit {0}
+abbrev pub EachDrain : (Has : OfStep) (limit : ℕ) (old : State) (replies : List Reply) (new : State) → DrainRun limit old replies new → Type 0
+EachDrain Has limit old replies new (inl quiet) =
+    EachRound Has limit old quiet.begun.rounds quiet.made quiet.last quiet.begun.went × EachOfRound Has limit quiet.made quiet.last 0 new quiet.round
+EachDrain Has limit old replies new (inr (inl more)) =
+    EachRound Has limit old more.begun.rounds more.made more.last more.begun.went × Has more.last (Resuming more.boot.drafts None more.boot.step) new
+EachDrain Has limit old replies new (inr (inr more)) = EachRound Has limit old more.rounds limit new more.went
 
-abbrev pub EachOnStore : (Has : OfStep) (r : Option Reply) (old : State) (command : Command) (replies : List Reply) (new : State) → RestsOrCalls r old command replies new → Type 0
-EachOnStore Has (Some reply) old command replies new rests = Unit {0}
-EachOnStore Has None old command replies new run = EachCall Has old command replies new run
+abbrev pub EachDrainCut : (Has : OfStep) (limit : ℕ) (old new : State) → DrainCut limit old new → Type 0
+EachDrainCut Has limit old new (inl cut) =
+    EachRound Has limit old cut.begun.rounds cut.made cut.last cut.begun.went × Has cut.last (Resuming cut.drafts None boot_step.OutOfMemory) new
+EachDrainCut Has limit old new (inr cut) =
+    EachRound Has limit old cut.begun.rounds cut.made cut.last cut.begun.went
+    × Has cut.last (Resuming cut.boot.drafts None cut.boot.step) cut.mid × Has cut.mid (Writing None step.OutOfMemory) new
+
+-- each step that a command made
+abbrev pub EachCall : (Has : OfStep) (options : Options) (old : State) (command : Command) (replies : List Reply) (new : State) → Calls options old command replies new → Type 0
+EachCall Has options old (Put key value sync) replies new run = EachPut Has old (put_batch key value sync) replies new run
+EachCall Has options old (Del key sync) replies new run = EachPut Has old (del_batch key sync) replies new run
+EachCall Has options old Write replies new run = Has old (Writing None run.step) new
+EachCall Has options old ResumeStep replies new run = Has old (Resuming run.drafts None run.step) new
+EachCall Has options old (Drain moves) replies new run = EachDrain Has moves old replies new run
+EachCall Has options old command replies new run = Unit {0}
+
+abbrev pub EachOnStore : (Has : OfStep) (options : Options) (r : Option Reply) (old : State) (command : Command) (replies : List Reply) (new : State) → RestsOrCalls options r old command replies new → Type 0
+EachOnStore Has options (Some reply) old command replies new rests = Unit {0}
+EachOnStore Has options None old command replies new run = EachCall Has options old command replies new run
 
 abbrev pub EachOf : (Has : OfStep) (old : Session) (command : Command) (replies : List Reply) (new : Session) → Carries old command replies new → Type 0
 EachOf Has old (SetOption name value) replies new run = Unit {0}
 EachOf Has old (Tick ticks) replies new run = Unit {0}
-EachOf Has old command replies new run = EachOnStore Has (rest_reply (is_open old.store.mode.phase) command) old.store command replies new.store run.carries
+EachOf Has old command replies new run = EachOnStore Has old.options (rest_reply (is_open old.store.mode.phase) command) old.store command replies new.store run.carries
 
 -- each that was made before memory ended at a command
-abbrev pub EachPartly : (Has : OfStep) (old : State) (command : Command) (new : State) → CallsPartly old command new → Type 0
-EachPartly Has old (Put key value sync) new cut = EachPutCut Has old (put_batch key value sync) new cut
-EachPartly Has old (Del key sync) new cut = EachPutCut Has old (del_batch key sync) new cut
-EachPartly Has old Write new turn = Has old step.OutOfMemory new
-EachPartly Has old (Drain moves) new cut = EachMove Has old cut.0 cut.1 cut.3 × Has cut.1 step.OutOfMemory new
-EachPartly Has old command new cut = Unit {0}
+abbrev pub EachPartly : (Has : OfStep) (options : Options) (old : State) (command : Command) (new : State) → CallsPartly options old command new → Type 0
+EachPartly Has options old (Put key value sync) new cut = EachPutCut Has old (put_batch key value sync) new cut
+EachPartly Has options old (Del key sync) new cut = EachPutCut Has old (del_batch key sync) new cut
+EachPartly Has options old Write new turn = Has old (Writing None step.OutOfMemory) new
+EachPartly Has options old ResumeStep new cut = Has old (Resuming cut.0 None boot_step.OutOfMemory) new
+EachPartly Has options old (Drain moves) new cut = EachDrainCut Has moves old new cut
+EachPartly Has options old command new cut = Unit {0}
 
-abbrev pub EachStoreCut : (Has : OfStep) (old : State) (command : Command) (new : State) → StoreCutShort old command new → Type 0
-EachStoreCut Has old command new (inl same) = Unit {0}
-EachStoreCut Has old command new (inr (inl carries)) = EachOnStore Has (rest_reply (is_open old.mode.phase) command) old command carries.0 new carries.1
-EachStoreCut Has old command new (inr (inr cut)) = EachPartly Has old command new cut.1
+abbrev pub EachStoreCut : (Has : OfStep) (options : Options) (old : State) (command : Command) (new : State) → StoreCutShort options old command new → Type 0
+EachStoreCut Has options old command new (inl same) = Unit {0}
+EachStoreCut Has options old command new (inr (inl carries)) = EachOnStore Has options (rest_reply (is_open old.mode.phase) command) old command carries.0 new carries.1
+EachStoreCut Has options old command new (inr (inr cut)) = EachPartly Has options old command new cut.1
 
 abbrev pub EachCut : (Has : OfStep) (old : Session) (command : Command) (new : Session) → CutShort old command new → Type 0
-EachCut Has old command new (inl short) = EachStoreCut Has old.store command new.store short.cut
+EachCut Has old command new (inl short) = EachStoreCut Has old.options old.store command new.store short.cut
 EachCut Has old command new (inr carries) = EachOf Has old command carries.0 new carries.1
 
--- each write step of the commands of a run
+-- each step of the commands of a run
 abbrev pub EachRun : (Has : OfStep) (commands : List Command) (old : Session) (replies : List Reply) (new : Session) → Run old commands replies new → Type 0
 EachRun Has [] old replies new same = Unit {0}
 EachRun Has (command ∷ commands) old replies new run = EachOf Has old command run.1 run.0 run.3 × EachRun Has commands run.0 run.2 new run.4
@@ -90,7 +110,7 @@ EachStopped Has Unwritten old held line new holds stops = EachOf Has old stops.0
 EachStopped Has NoMemory old held line new holds (inl same, quiet) = Unit {0}
 EachStopped Has NoMemory old held line new holds (inr stops, quiet) = EachCut Has old stops.0 new stops.2
 
--- each write step of a run over lines
+-- each step of a run over lines
 abbrev pub EachEnd : (Has : OfStep) (stop : Option StopPlace) (old : Session) (held : Option (List ℕ)) (lines : List (List ℕ)) (new : Session) (holds : Option (List ℕ)) → LinesEnd stop old held lines new holds → Type 0
 EachEnd Has None old held lines new holds progress = EachRun Has progress.commands old progress.replies new progress.run
 EachEnd Has (Some at) old held lines new holds stops =

@@ -2,6 +2,7 @@ pub mod Sessions
 pub mod Grammar
 pub mod Puts
 pub mod Writes
+pub mod Boots
 pub mod Drains
 pub mod Runs
 pub mod Replies
@@ -11,5 +12,8 @@ pub mod Driving
 pub mod Standing
 pub mod LineEnds
 pub mod Inside
+pub mod Claim
+pub mod ReadClaim
+pub mod Answers
 pub mod Ends
 pub mod Words

@@ -2,7 +2,6 @@
 use Rattle.std.specs.Prelude.{◌≡◌, ◌⊎◌, ℕ, Bool, Option, None, Some, List, [], ◌∷◌}
 use Rattle.keel_base.specs.declared.op.Batch.{Batch}
 use Rattle.keel_base.specs.declared.op.Op.TheVariants as op
-use Rattle.keel_base.specs.declared.failure.Counter.{Counter}
 use Rattle.keel_machine.specs.declared.answers.Admit.{Admit}
 use Rattle.keel_machine.specs.declared.answers.Admit.TheVariants as admit
 use Rattle.keel_machine.specs.declared.answers.Part.TheVariants as part
@@ -32,8 +31,10 @@ refusal_replies (admit.Queued ticket) = None
 refusal_replies (admit.BadSize part.Key size) = Some (reply.BadSizeKey size ∷ [])
 refusal_replies (admit.BadSize part.Value size) = Some (reply.BadSizeValue size ∷ [])
 refusal_replies (admit.BadSize part.Batch size) = None
+refusal_replies admit.Booting = Some (reply.Booting ∷ [])
 refusal_replies (admit.Stopped failure) = Some (reply.Stopped failure ∷ [])
 refusal_replies (admit.Spent counter) = Some (reply.Spent counter ∷ [])
+refusal_replies (admit.Full active immutables) = Some (reply.Full active immutables ∷ [])
 refusal_replies (admit.QueueFull waiting) = Some (reply.QueueFull waiting ∷ [])
 refusal_replies admit.OutOfMemory = None
 
@@ -78,12 +79,19 @@ pub record PutSettled (old : State) (batch : Batch) (replies : List Reply) (new 
   pub taken : Turn last (TakingOutcome ticket outcome) new
   pub prints : outcome_replies outcome ≡ Some replies
 
--- the last write step found a counter at its end, and the batch still waits
+-- the writer has no way to go on: a counter is at its end, or the store is full
+abbrev pub IsStuck : WriteStep → Type 0
+IsStuck (step.Spent counter) = Unit {0}
+IsStuck (step.Full active immutables) = Unit {0}
+IsStuck _ = ⊥
+
+-- the last write step has no way to go on, and the batch still waits
 pub record PutWaits (old : State) (batch : Batch) (replies : List Reply) (new : State) : Type 0 where
   pub ticket : ℕ
   pub steps : List WriteStep
-  pub counter : Counter
-  pub queues : Queues old batch ticket (step.Spent counter ∷ steps) new
+  pub step : WriteStep
+  pub stuck : IsStuck step
+  pub queues : Queues old batch ticket (step ∷ steps) new
   pub prints : replies ≡ reply.Waiting ticket ∷ []
 
 -- a put of this batch is answered by these replies

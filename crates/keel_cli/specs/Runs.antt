@@ -7,9 +7,12 @@ use Rattle.keel_base.specs.Options.{range_of, IsWithin, SetsOne}
 use Rattle.keel_disk.specs.declared.error.DiskError.{DiskError}
 use Rattle.keel_disk.specs.declared.error.DiskError.TheVariants as disk
 use Rattle.keel_disk.specs.declared.rule.Pick.{Pick}
-use Rattle.keel_reading.specs.declared.refusal.OpenRefusal.{OpenRefusal}
-use Rattle.keel_reading.specs.declared.refusal.OpenRefusal.TheVariants as refusal
-use Rattle.keel_reading.specs.declared.replay.FoundLogs.{FoundLogs}
+use Rattle.keel_base.specs.declared.options.Options.{Options}
+use Rattle.keel_open.specs.declared.refusal.OpenRefusal.{OpenRefusal}
+use Rattle.keel_open.specs.declared.refusal.OpenRefusal.TheVariants as refusal
+use Rattle.keel_table.specs.declared.fault.TableFault.{TableFault}
+use Rattle.keel_table.specs.declared.fault.TableFault.TheVariants as fault
+use Rattle.keel_machine.specs.Opening.{Found}
 use Rattle.keel_machine.specs.declared.answers.Got.{Got}
 use Rattle.keel_machine.specs.declared.answers.Got.TheVariants as got
 use Rattle.keel_machine.specs.declared.answers.Scanned.{Scanned}
@@ -18,9 +21,10 @@ use Rattle.keel_machine.specs.States.{State}
 use Rattle.keel_machine.specs.Turns.{Turn, Opening, Getting, Scanning, Listing, Crashing}
 use Rattle.keel_machine.specs.States.{is_open}
 use Rattle.keel_script.specs.declared.command.Command.{Command}
-use Rattle.keel_script.specs.declared.command.Command.TheVariants.{SetOption, Open, Put, Del, QueuePut, QueueDel, Write, Drain, Tick, Get, Scan, Files, Crash}
+use Rattle.keel_script.specs.declared.command.Command.TheVariants.{SetOption, Open, Put, Del, QueuePut, QueueDel, Write, ResumeStep, Drain, Tick, Get, Scan, Files, Crash}
 use Rattle.keel_script.specs.declared.reply.Reply.{Reply}
 use Rattle.keel_script.specs.declared.reply.Reply.TheVariants as reply
+use Rattle.keel_cli.specs.Boots.{BootRun, BootCut}
 use Rattle.keel_cli.specs.Drains.{DrainRun, DrainCut}
 use Rattle.keel_cli.specs.Puts.{put_batch, del_batch, PutRun, PutCut, QueueRun, QueueCut}
 use Rattle.keel_cli.specs.Writes.{WriteRun, WriteCut}
@@ -29,17 +33,30 @@ use Rattle.keel_cli.specs.Sessions.{Session, with_store}
 -- ---- replies to calls
 
 -- the reply that prints an opening; want of memory has none
-abbrev pub opening_replies : Result FoundLogs OpenRefusal → Option (List Reply)
-opening_replies (Ok found) = Some (reply.Opened found.last_seq ∷ [])
+abbrev pub opening_replies : Result Found OpenRefusal → Option (List Reply)
+opening_replies (Ok found) = Some (reply.Opened found.store.last_seq ∷ [])
 opening_replies (Err (refusal.Device fault)) = Some (reply.RefusedDevice fault ∷ [])
 opening_replies (Err (refusal.NoCurrent file)) = Some (reply.RefusedNoCurrent file ∷ [])
+opening_replies (Err (refusal.BadCurrent bytes)) = Some (reply.RefusedBadCurrent bytes ∷ [])
+opening_replies (Err (refusal.DamagedManifest at)) = Some (reply.RefusedDamagedManifest at ∷ [])
+opening_replies (Err (refusal.MissingTable number)) = Some (reply.RefusedMissingTable number ∷ [])
+opening_replies (Err (refusal.BadTable number cause)) = Some (reply.RefusedBadTable number ∷ [])
 opening_replies (Err (refusal.BadLog log at)) = Some (reply.RefusedBadLog log at ∷ [])
 opening_replies (Err (refusal.LogGap log expected found)) = Some (reply.RefusedLogGap log expected found ∷ [])
 opening_replies (Err refusal.OutOfMemory) = None
 
+-- the reply to a read for which the table of that number wasn't read; want of memory has none
+abbrev pub fault_replies : ℕ → TableFault → Option (List Reply)
+fault_replies number (fault.Device cause) = Some (reply.ReadFault cause ∷ [])
+fault_replies number fault.Absent = Some (reply.AbsentTable number ∷ [])
+fault_replies number (fault.BadCheck stored computed) = Some (reply.BadCheck stored computed ∷ [])
+fault_replies number (fault.BadShape at) = Some (reply.BadShape at ∷ [])
+fault_replies number fault.OutOfMemory = None
+
 abbrev pub reading_replies : Got → Option (List Reply)
 reading_replies (got.Value value) = Some (reply.Value value ∷ [])
 reading_replies got.Absent = Some (reply.Absent ∷ [])
+reading_replies (got.ReadFault number cause) = fault_replies number cause
 reading_replies got.OutOfMemory = None
 
 -- a line for each row, and their number
@@ -48,6 +65,7 @@ row_replies rows = map (λ (row : Row). reply.Row row.key row.value) rows ++ rep
 
 abbrev pub scan_replies : Scanned → Option (List Reply)
 scan_replies (scanned.Rows rows) = Some (row_replies rows)
+scan_replies (scanned.ReadFault number cause) = fault_replies number cause
 scan_replies scanned.OutOfMemory = None
 
 -- a line for each file, and their number
@@ -66,10 +84,10 @@ pub record Rests {S : Type 0} (old : S) (reply : Reply) (replies : List Reply) (
   pub same : new ≡ old
   pub prints : replies ≡ reply ∷ []
 
--- an opening with these replies
-pub record OpenRun (old : State) (replies : List Reply) (new : State) : Type 0 where
-  pub answer : Result FoundLogs OpenRefusal
-  pub turn : Turn old (Opening answer) new
+-- an opening with these options and these replies
+pub record OpenRun (options : Options) (old : State) (replies : List Reply) (new : State) : Type 0 where
+  pub answer : Result Found OpenRefusal
+  pub turn : Turn old (Opening options answer) new
   pub prints : opening_replies answer ≡ Some replies
 
 -- a read with these replies
@@ -109,6 +127,8 @@ rest_reply true (QueueDel client key sync) = None
 rest_reply false (QueueDel client key sync) = Some reply.NotOpen
 rest_reply true Write = None
 rest_reply false Write = Some reply.NotOpen
+rest_reply true ResumeStep = None
+rest_reply false ResumeStep = Some reply.NotOpen
 rest_reply true (Scan from to) = None
 rest_reply false (Scan from to) = Some reply.NotOpen
 rest_reply true (Get key) = None
@@ -126,34 +146,37 @@ needs_store (Del key sync) = true
 needs_store (QueuePut client key value sync) = true
 needs_store (QueueDel client key sync) = true
 needs_store Write = true
+needs_store ResumeStep = true
 needs_store (Get key) = true
 needs_store (Scan from to) = true
 needs_store (Drain moves) = true
 needs_store command = false
 
--- the calls that a command may make, the replies that then answer it, and the state that it leaves
-abbrev pub Calls : State → Command → List Reply → State → Type 0
-Calls old Open replies new = OpenRun old replies new
-Calls old (Put key value sync) replies new = PutRun old (put_batch key value sync) replies new
-Calls old (Del key sync) replies new = PutRun old (del_batch key sync) replies new
-Calls old (QueuePut client key value sync) replies new = QueueRun old (put_batch key value sync) replies new
-Calls old (QueueDel client key sync) replies new = QueueRun old (del_batch key sync) replies new
-Calls old Write replies new = WriteRun old replies new
-Calls old (Get key) replies new = GetRun old key replies new
-Calls old (Scan from to) replies new = ScanRun old from to replies new
-Calls old (Drain moves) replies new = DrainRun moves old replies new
-Calls old Files replies new = ListRun old replies new
-Calls old (Crash dirops keep garbage seed) replies new =
+-- The calls that a command may make, the replies that then answer it, and the state that it leaves. Options are those of an
+-- opening.
+abbrev pub Calls : Options → State → Command → List Reply → State → Type 0
+Calls options old Open replies new = OpenRun options old replies new
+Calls options old (Put key value sync) replies new = PutRun old (put_batch key value sync) replies new
+Calls options old (Del key sync) replies new = PutRun old (del_batch key sync) replies new
+Calls options old (QueuePut client key value sync) replies new = QueueRun old (put_batch key value sync) replies new
+Calls options old (QueueDel client key sync) replies new = QueueRun old (del_batch key sync) replies new
+Calls options old Write replies new = WriteRun old replies new
+Calls options old ResumeStep replies new = BootRun old replies new
+Calls options old (Get key) replies new = GetRun old key replies new
+Calls options old (Scan from to) replies new = ScanRun old from to replies new
+Calls options old (Drain moves) replies new = DrainRun moves old replies new
+Calls options old Files replies new = ListRun old replies new
+Calls options old (Crash dirops keep garbage seed) replies new =
     CrashRun old.device.simulated old (record { dirops = dirops; keep = keep; garbage = garbage; seed = seed }) replies new
-Calls old command replies new = ⊥
+Calls options old command replies new = ⊥
 
 -- a command is answered without a call, or by its calls
-abbrev pub RestsOrCalls : Option Reply → State → Command → List Reply → State → Type 0
-RestsOrCalls (Some reply) old command replies new = Rests old reply replies new
-RestsOrCalls None old command replies new = Calls old command replies new
+abbrev pub RestsOrCalls : Options → Option Reply → State → Command → List Reply → State → Type 0
+RestsOrCalls options (Some reply) old command replies new = Rests old reply replies new
+RestsOrCalls options None old command replies new = Calls options old command replies new
 
-abbrev pub CarriesOnStore : State → Command → List Reply → State → Type 0
-CarriesOnStore old command replies new = RestsOrCalls (rest_reply (is_open old.mode.phase) command) old command replies new
+abbrev pub CarriesOnStore : Options → State → Command → List Reply → State → Type 0
+CarriesOnStore options old command replies new = RestsOrCalls options (rest_reply (is_open old.mode.phase) command) old command replies new
 
 -- ---- commands on the driver's own values
 
@@ -186,7 +209,7 @@ pub record TickRun (old : Session) (ticks : ℕ) (replies : List Reply) (new : S
 
 -- the store goes on by the command, and nothing else changes
 pub record StoreRun (old : Session) (command : Command) (replies : List Reply) (new : Session) : Type 0 where
-  pub carries : CarriesOnStore old.store command replies new.store
+  pub carries : CarriesOnStore old.options old.store command replies new.store
   pub rest : new ≡ with_store new.store old
 
 -- a command on the store, and not on the driver's own values
@@ -202,22 +225,23 @@ Carries old (Tick ticks) replies new = TickRun old ticks replies new
 Carries old command replies new = StoreRun old command replies new
 
 -- memory ended at a call of the command, behind a first part of its calls
-abbrev pub CallsPartly : State → Command → State → Type 0
-CallsPartly old Open new = Turn old (Opening (Err refusal.OutOfMemory)) new
-CallsPartly old (Put key value sync) new = PutCut old (put_batch key value sync) new
-CallsPartly old (Del key sync) new = PutCut old (del_batch key sync) new
-CallsPartly old (QueuePut client key value sync) new = QueueCut old (put_batch key value sync) new
-CallsPartly old (QueueDel client key sync) new = QueueCut old (del_batch key sync) new
-CallsPartly old Write new = WriteCut old new
-CallsPartly old (Get key) new = Turn old (Getting key got.OutOfMemory) new
-CallsPartly old (Scan from to) new = Turn old (Scanning from to scanned.OutOfMemory) new
-CallsPartly old (Drain moves) new = DrainCut moves old new
-CallsPartly old Files new = Turn old (Listing (Err disk.OutOfMemory)) new
-CallsPartly old command new = ⊥
+abbrev pub CallsPartly : Options → State → Command → State → Type 0
+CallsPartly options old Open new = Turn old (Opening options (Err refusal.OutOfMemory)) new
+CallsPartly options old (Put key value sync) new = PutCut old (put_batch key value sync) new
+CallsPartly options old (Del key sync) new = PutCut old (del_batch key sync) new
+CallsPartly options old (QueuePut client key value sync) new = QueueCut old (put_batch key value sync) new
+CallsPartly options old (QueueDel client key sync) new = QueueCut old (del_batch key sync) new
+CallsPartly options old Write new = WriteCut old new
+CallsPartly options old ResumeStep new = BootCut old new
+CallsPartly options old (Get key) new = Turn old (Getting key got.OutOfMemory) new
+CallsPartly options old (Scan from to) new = Turn old (Scanning from to scanned.OutOfMemory) new
+CallsPartly options old (Drain moves) new = DrainCut moves old new
+CallsPartly options old Files new = Turn old (Listing (Err disk.OutOfMemory)) new
+CallsPartly options old command new = ⊥
 
 -- where it makes calls
-abbrev pub Partly : State → Command → State → Type 0
-Partly old command new = (rest_reply (is_open old.mode.phase) command ≡ None) × CallsPartly old command new
+abbrev pub Partly : Options → State → Command → State → Type 0
+Partly options old command new = (rest_reply (is_open old.mode.phase) command ≡ None) × CallsPartly options old command new
 
 -- one command after another
 abbrev pub Run : Session → List Command → List Reply → Session → Type 0

@@ -5,7 +5,7 @@ use Rattle.keel_base.specs.Points.{origin}
 use Rattle.keel_base.specs.Options.{AreDefaults, standard}
 use Rattle.keel_disk.specs.Told.{Told}
 use Rattle.keel_disk.specs.Seen.{Seen}
-use Rattle.keel_machine.specs.States.{State, Footing, Known, Unknown, Shut, Nothing, new_story}
+use Rattle.keel_machine.specs.States.{State, Footing, Known, Unknown, Shut, Nothing, new_story, no_batches}
 use Rattle.keel_recovery.specs.Machine.{RestsIn}
 
 -- its store as the machine has it, the options for the next opening, and the tick
@@ -22,13 +22,15 @@ abbrev pub unopened : Footing → Seen → State
 unopened footing device = record {
   device = device;
   footing = footing;
+  options = standard;
   mode = record { phase = Shut; left = Nothing };
   story = new_story origin;
-  segments = record { immutable = []; active = record { batches = []; logs = [] } };
+  segments = record { immutable = []; active = no_batches };
+  levels = [];
   writing = record { waiting = []; outcomes = []; last_ticket = 0 };
-  failing = record { failures = []; paranoid = standard.paranoid };
-  jobs = record { write = record { number = 0; running = None } };
-  numbers = record { next_file = 1 };
+  failing = record { failures = [] };
+  jobs = record { write = record { number = 0; running = None }; resume = record { number = 0; running = None } };
+  numbers = record { next_file = 1; manifest = None; in_tables = 0 };
 }
 
 -- a run begins so: no store, each option with its default, and tick 0

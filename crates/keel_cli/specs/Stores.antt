@@ -52,10 +52,14 @@ IsTold _ = Unit {0}
 abbrev pub AreTold : List (ℕ × Outcome) → Type 0
 AreTold outcomes = AllByRecursion (λ (entry : ℕ × Outcome). IsTold entry.1) outcomes
 
+-- the core stands for some state, and its outcomes are so
+abbrev pub StandsForSome : CoreView → Type 0
+StandsForSome core = ∥ ((s : State) × StandsFor core s × AreTold core.outcomes) ∥₁
+
 -- a store between two calls
 abbrev pub IsTidy : StoreView → Type 0
 IsTidy (Closed shows) = Unit {0}
-IsTidy (Open core) = AreTold core.outcomes
+IsTidy (Open core) = StandsForSome core
 IsTidy Lent = ⊥
 
 -- the core stands for a state of which this holds

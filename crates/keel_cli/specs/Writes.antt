@@ -14,6 +14,7 @@ step_replies (step.Moved job call) = Some (reply.Moved job call ∷ [])
 step_replies (step.Done job seq batches) = Some (reply.WriteDone job seq batches ∷ [])
 step_replies (step.Failed failure) = Some (reply.Failed failure ∷ [])
 step_replies (step.Turned batches failure) = Some (reply.Turned batches failure ∷ [])
+step_replies (step.Full active immutables) = Some (reply.Full active immutables ∷ [])
 step_replies (step.Spent counter) = Some (reply.Spent counter ∷ [])
 step_replies (step.Cancelled job current) = Some (reply.Cancelled job current ∷ [])
 step_replies step.OutOfMemory = None

@@ -1,32 +1,49 @@
-// Going round the actors until all rest. The writer is the one that there is.
-ghost use Rattle.std.specs.Prelude.{◌≡◌, true, false, [], ◌∷◌, Ok, IfOk, IsErr, OnErr};
+// Going round the actors until all rest: the boot and the writer.
+ghost use Rattle.std.specs.Prelude.{◌≡◌, ◌≤◌, Some, IfOk, IsErr, OnErr, [], ◌∷◌};
 ghost use Rattle.keel_machine.specs.States.{State};
 ghost use Rattle.keel_core.specs.Views.{StandsFor};
-ghost use Rattle.keel_cli.specs.Drains.{DrainRun, DrainCut, IsMove, IsRest};
+ghost use Rattle.keel_cli.specs.Drains.{DrainRun, DrainCut, moves_of_boot, moves_of_write};
+ghost use Rattle.keel_machine.specs.declared.steps.ResumeStep.TheVariants as resume_steps;
 ghost use Rattle.keel_machine.specs.declared.steps.WriteStep.TheVariants as steps;
-ghost use Rattle.keel_cli.specs.Stores.{AreTold, CoreLeads};
+ghost use Rattle.keel_cli.specs.Stores.{CoreLeads, StandsForSome};
 
 use keel_base::OutOfMemory;
 use keel_core::Core;
 use keel_disk::Device;
-use keel_machine::WriteStep;
+use keel_machine::{ResumeStep, WriteStep};
 use keel_script::Reply;
 use std::alloc::Global;
 
-// Whether a step moved; otherwise its actor rests.
-fn has_moved(step: WriteStep) -> Result<bool, OutOfMemory>
-    ensures moved { result ≡ Ok true → IsMove step }
-    ensures rests { result ≡ Ok false → IsRest step }
+// How many moves a step of the boot was: one, or none where the boot rests.
+fn moves_of_boot(step: ResumeStep) -> Result<u64, OutOfMemory>
+    ensures moves { IfOk result (λ moves. moves_of_boot step ≡ Some moves) }
+    ensures few { IfOk result (λ moves. moves ≤ 1) }
+    ensures cut { IsErr result → step ≡ resume_steps.OutOfMemory }
+{
+    match step {
+        ResumeStep::Idle | ResumeStep::Spent(_) => Ok(0),
+        ResumeStep::OutOfMemory => Err(OutOfMemory),
+        ResumeStep::Moved { .. }
+        | ResumeStep::Cleared { .. }
+        | ResumeStep::Failed(_)
+        | ResumeStep::Cancelled { .. } => Ok(1),
+    }
+}
+
+// The same of a step of the writer.
+fn moves_of_write(step: WriteStep) -> Result<u64, OutOfMemory>
+    ensures moves { IfOk result (λ moves. moves_of_write step ≡ Some moves) }
+    ensures few { IfOk result (λ moves. moves ≤ 1) }
     ensures cut { IsErr result → step ≡ steps.OutOfMemory }
 {
     match step {
-        WriteStep::Idle | WriteStep::Spent(_) => Ok(false),
+        WriteStep::Idle | WriteStep::Full { .. } | WriteStep::Spent(_) => Ok(0),
         WriteStep::OutOfMemory => Err(OutOfMemory),
         WriteStep::Moved { .. }
         | WriteStep::Done { .. }
         | WriteStep::Failed(_)
         | WriteStep::Turned { .. }
-        | WriteStep::Cancelled { .. } => Ok(true),
+        | WriteStep::Cancelled { .. } => Ok(1),
     }
 }
 
@@ -36,19 +53,24 @@ pub(crate) fn drain<V: Device>(
     core: &mut Core<V>,
     moves: u64,
 ) -> Result<Reply, OutOfMemory>
-    requires told { AreTold core.old.outcomes }
+    requires told { StandsForSome core.old }
     ensures carried { (s : State) → StandsFor core.old s → IfOk result (λ reply. CoreLeads core.new (DrainRun moves s (reply ∷ []))) }
     ensures cut { (s : State) → StandsFor core.old s → OnErr result (CoreLeads core.new (DrainCut moves s)) }
-    ensures told { AreTold core.new.outcomes }
+    ensures told { StandsForSome core.new }
 {
     let mut made = 0;
-    'moving: while made < moves {
-        let step = core.write_step(alloc, None);
-        match has_moved(step) {
-            Ok(true) => made += 1,
-            Ok(false) => return Ok(Reply::Quiet),
-            Err(OutOfMemory) => return Err(OutOfMemory),
+    'rounds: while made < moves {
+        let step = core.resume_step(alloc, None);
+        let booted = moves_of_boot(step)?;
+        if made + booted == moves {
+            return Ok(Reply::More);
         }
+        let step = core.write_step(alloc, None);
+        let written = moves_of_write(step)?;
+        if booted + written == 0 {
+            return Ok(Reply::Quiet);
+        }
+        made += booted + written;
     }
     Ok(Reply::More)
 }

@@ -89,6 +89,6 @@ impl<V: Device> Driver<V> {
         if let Some(reply) = self.own_reply(command) {
             return Ok(Answer::One(reply));
         }
-        self.store.answer(alloc, command)
+        self.store.answer(alloc, self.settings.options(), command)
     }
 }

@@ -4,7 +4,7 @@ ghost use Rattle.keel_machine.specs.States.{State};
 ghost use Rattle.keel_machine.specs.declared.answers.Admit.TheVariants as admit;
 ghost use Rattle.keel_machine.specs.declared.answers.Part.TheVariants as parts;
 ghost use Rattle.keel_core.specs.Views.{StandsFor};
-ghost use Rattle.keel_cli.specs.Stores.{AreTold, CoreLeads};
+ghost use Rattle.keel_cli.specs.Stores.{CoreLeads, StandsForSome};
 ghost use Rattle.keel_cli.specs.Puts.{put_batch as batch_of_put, del_batch as batch_of_del, refusal_replies, Tells, PutRun, PutCut, QueueRun, QueueCut};
 
 use keel_base::{Batch, Bytes, Op, Ops, OutOfMemory};
@@ -51,8 +51,12 @@ fn ticket_or_reply(answer: Admit) -> Result<Admitted, OutOfMemory>
     match answer {
         Admit::Queued { ticket } => Ok(Admitted::Queued(ticket)),
         Admit::BadSize { part, length } => Ok(Admitted::Refused(size_reply(part, length))),
+        Admit::Booting => Ok(Admitted::Refused(Reply::Booting)),
         Admit::Stopped(failure) => Ok(Admitted::Refused(Reply::Stopped(failure))),
         Admit::Spent(counter) => Ok(Admitted::Refused(Reply::Spent(counter))),
+        Admit::Full { active, immutables } => {
+            Ok(Admitted::Refused(Reply::Full { active, immutables }))
+        }
         Admit::QueueFull { waiting } => Ok(Admitted::Refused(Reply::QueueFull { waiting })),
         Admit::OutOfMemory => Err(OutOfMemory),
     }
@@ -65,10 +69,10 @@ pub(crate) fn put_batch<V: Device>(
     batch: Batch,
 ) -> Result<Reply, OutOfMemory>
     requires one { length batch.ops ≡ 1 }
-    requires told { AreTold core.old.outcomes }
+    requires told { StandsForSome core.old }
     ensures carried { (s : State) → StandsFor core.old s → IfOk result (λ reply. CoreLeads core.new (PutRun s batch (reply ∷ []))) }
     ensures cut { (s : State) → StandsFor core.old s → OnErr result (CoreLeads core.new (PutCut s batch)) }
-    ensures told { AreTold core.new.outcomes }
+    ensures told { StandsForSome core.new }
 {
     let ticket = match ticket_or_reply(core.admit(batch))? {
         Admitted::Queued(ticket) => ticket,
@@ -84,6 +88,7 @@ pub(crate) fn put_batch<V: Device>(
         }
         match core.write_step(alloc, None) {
             WriteStep::OutOfMemory => return Err(OutOfMemory),
+            WriteStep::Full { .. } => return Ok(Reply::Waiting { ticket }),
             WriteStep::Spent(_) => return Ok(Reply::Waiting { ticket }),
             WriteStep::Cancelled { .. } => unreachable!(),
             WriteStep::Idle
@@ -98,10 +103,10 @@ pub(crate) fn put_batch<V: Device>(
 /// Admits a batch of one op, and makes no write step.
 pub(crate) fn queue_batch<V: Device>(core: &mut Core<V>, batch: Batch) -> Result<Reply, OutOfMemory>
     requires one { length batch.ops ≡ 1 }
-    requires told { AreTold core.old.outcomes }
+    requires told { StandsForSome core.old }
     ensures carried { (s : State) → StandsFor core.old s → IfOk result (λ reply. CoreLeads core.new (QueueRun s batch (reply ∷ []))) }
     ensures cut { (s : State) → StandsFor core.old s → OnErr result (CoreLeads core.new (QueueCut s batch)) }
-    ensures told { AreTold core.new.outcomes }
+    ensures told { StandsForSome core.new }
 {
     match ticket_or_reply(core.admit(batch))? {
         Admitted::Queued(ticket) => Ok(Reply::Queued { ticket }),

@@ -3,7 +3,7 @@ ghost use Rattle.std.specs.Prelude.{◌≡◌, [], ◌∷◌, Some, IfOk, IsErr,
 ghost use Rattle.keel_machine.specs.States.{State};
 ghost use Rattle.keel_machine.specs.declared.steps.WriteStep.TheVariants as steps;
 ghost use Rattle.keel_core.specs.Views.{StandsFor};
-ghost use Rattle.keel_cli.specs.Stores.{AreTold, CoreLeads};
+ghost use Rattle.keel_cli.specs.Stores.{CoreLeads, StandsForSome};
 ghost use Rattle.keel_cli.specs.Writes.{WriteRun, WriteCut, step_replies};
 
 use keel_base::OutOfMemory;
@@ -24,6 +24,7 @@ fn step_reply(step: WriteStep) -> Result<Reply, OutOfMemory>
         WriteStep::Done { job, seq, batches } => Ok(Reply::WriteDone { job, seq, batches }),
         WriteStep::Failed(failure) => Ok(Reply::Failed(failure)),
         WriteStep::Turned { batches, failure } => Ok(Reply::Turned { batches, failure }),
+        WriteStep::Full { active, immutables } => Ok(Reply::Full { active, immutables }),
         WriteStep::Spent(counter) => Ok(Reply::Spent(counter)),
         WriteStep::Cancelled { job, current } => Ok(Reply::Cancelled { job, current }),
         WriteStep::OutOfMemory => Err(OutOfMemory),
@@ -32,10 +33,10 @@ fn step_reply(step: WriteStep) -> Result<Reply, OutOfMemory>
 
 /// Makes one write step, and says what it did.
 pub(crate) fn write<V: Device>(alloc: Global, core: &mut Core<V>) -> Result<Reply, OutOfMemory>
-    requires told { AreTold core.old.outcomes }
+    requires told { StandsForSome core.old }
     ensures carried { (s : State) → StandsFor core.old s → IfOk result (λ reply. CoreLeads core.new (WriteRun s (reply ∷ []))) }
     ensures cut { (s : State) → StandsFor core.old s → OnErr result (CoreLeads core.new (WriteCut s)) }
-    ensures told { AreTold core.new.outcomes }
+    ensures told { StandsForSome core.new }
 {
     let step = core.write_step(alloc, None);
     step_reply(step)

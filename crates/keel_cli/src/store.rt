@@ -3,26 +3,30 @@ ghost use Rattle.std.specs.Prelude.{◌≡◌, [], ◌∷◌, false, true, IfOk,
 ghost use Rattle.keel_disk.specs.declared.error.DiskError.TheVariants as disk;
 ghost use Rattle.keel_machine.specs.States.{State};
 ghost use Rattle.keel_core.specs.Views.{StandsFor};
-ghost use Rattle.keel_reading.specs.declared.refusal.OpenRefusal.TheVariants as refused;
+ghost use Rattle.keel_open.specs.declared.refusal.OpenRefusal.TheVariants as refused;
+ghost use Rattle.keel_table.specs.declared.fault.TableFault.TheVariants as faults;
+ghost use Rattle.keel_machine.specs.Reads.{IsBorne};
 ghost use Rattle.keel_recovery.specs.Machine.{IsCovered};
 ghost use Rattle.keel_script.specs.declared.command.Command.TheVariants as command;
 ghost use Rattle.keel_cli.specs.declared.answer.Answer.TheVariants as answers;
 ghost use Rattle.keel_cli.specs.Cuts.{CarriedOut};
 ghost use Rattle.keel_cli.specs.Replies.{replies_of};
-ghost use Rattle.keel_cli.specs.Runs.{listing_replies, needs_store, opening_replies, rest_reply};
-ghost use Rattle.keel_cli.specs.Stores.{AreTold, IsTidy, Shows, Stands, is_one_open, view_of};
+ghost use Rattle.keel_cli.specs.Runs.{fault_replies, listing_replies, needs_store, opening_replies, rest_reply};
+ghost use Rattle.keel_cli.specs.Stores.{IsTidy, Shows, Stands, StandsForSome, is_one_open, view_of};
 ghost use Rattle.keel_cli.specs.Stores as view;
 
 use crate::Answer;
+use crate::booting::resume;
 use crate::draining::drain;
 use crate::putting::{key_batch, pair_batch, put_batch, queue_batch};
 use crate::stepping::write;
-use keel_base::{Bytes, Listing, OutOfMemory};
+use keel_base::{Bytes, Listing, Options, OutOfMemory};
 use keel_core::{Core, Refused};
 use keel_disk::{Device, DiskError, Pick};
 use keel_machine::{Got, Scanned};
-use keel_reading::OpenRefusal;
+use keel_open::OpenRefusal;
 use keel_script::{Command, Reply};
+use keel_table::TableFault;
 use std::alloc::Global;
 use std::marker::Model;
 use std::mem;
@@ -76,6 +80,10 @@ fn refusal_reply(refusal: OpenRefusal) -> Result<Reply, OutOfMemory>
     match refusal {
         OpenRefusal::Device(fault) => Ok(Reply::RefusedDevice(fault)),
         OpenRefusal::NoCurrent { file } => Ok(Reply::RefusedNoCurrent(file)),
+        OpenRefusal::BadCurrent { bytes } => Ok(Reply::RefusedBadCurrent(bytes)),
+        OpenRefusal::DamagedManifest { at } => Ok(Reply::RefusedDamagedManifest { at }),
+        OpenRefusal::MissingTable { number } => Ok(Reply::RefusedMissingTable { number }),
+        OpenRefusal::BadTable { number, .. } => Ok(Reply::RefusedBadTable { number }),
         OpenRefusal::BadLog { log, at } => Ok(Reply::RefusedBadLog { number: log, at }),
         OpenRefusal::LogGap {
             log,
@@ -87,6 +95,20 @@ fn refusal_reply(refusal: OpenRefusal) -> Result<Reply, OutOfMemory>
             found,
         }),
         OpenRefusal::OutOfMemory => Err(OutOfMemory),
+    }
+}
+
+// What a read is answered for which the table of that number wasn't read.
+fn fault_reply(number: u64, fault: TableFault) -> Result<Reply, OutOfMemory>
+    ensures printed { IfOk result (λ reply. fault_replies number fault ≡ Some (reply ∷ [])) }
+    ensures cut { IsErr result → fault ≡ faults.OutOfMemory }
+{
+    match fault {
+        TableFault::Device(cause) => Ok(Reply::ReadFault(cause)),
+        TableFault::Absent => Ok(Reply::AbsentTable { number }),
+        TableFault::BadCheck { stored, computed } => Ok(Reply::BadCheck { stored, computed }),
+        TableFault::BadShape { at } => Ok(Reply::BadShape { at }),
+        TableFault::OutOfMemory => Err(OutOfMemory),
     }
 }
 
@@ -113,6 +135,7 @@ fn rest_reply(is_open: bool, command: &Command) -> Option<Reply>
         | Command::QueuePut { .. }
         | Command::QueueDel { .. }
         | Command::Write
+        | Command::ResumeStep
         | Command::Get { .. }
         | Command::Scan { .. }
         | Command::Drain { .. } => { if is_open { None } else { Some(Reply::NotOpen) } }
@@ -122,15 +145,21 @@ fn rest_reply(is_open: bool, command: &Command) -> Option<Reply>
 }
 
 // Reads the value at a key.
-fn get<V: Device>(alloc: Global, core: &mut Core<V>, key: &Bytes) -> Result<Answer, OutOfMemory>
-    requires { AreTold core.old.outcomes }
-    ensures told { AreTold core.new.outcomes }
-    ensures out { (s : State) → StandsFor core.old s
-        → CarriedOut s (command.Get key.now) (view.Open core.new) result }
+fn get<V: Device>(
+    alloc: Global,
+    options: &Options,
+    core: &mut Core<V>,
+    key: &Bytes,
+) -> Result<Answer, OutOfMemory>
+    requires { StandsForSome core.old }
+    ensures told { StandsForSome core.new }
+    ensures out { (s : State) → StandsFor core.old s → IsBorne s
+        → CarriedOut options.now s (command.Get key.now) (view.Open core.new) result }
 {
     match core.get(alloc, key.as_slice()) {
         Got::Value(value) => Ok(Answer::One(Reply::Value(value))),
         Got::Absent => Ok(Answer::One(Reply::Absent)),
+        Got::ReadFault { number, fault } => one(fault_reply(number, fault)),
         Got::OutOfMemory => Err(OutOfMemory),
     }
 }
@@ -138,17 +167,19 @@ fn get<V: Device>(alloc: Global, core: &mut Core<V>, key: &Bytes) -> Result<Answ
 // Reads the keys of a range.
 fn scan<V: Device>(
     alloc: Global,
+    options: &Options,
     core: &mut Core<V>,
     from: &Bytes,
     to: &Bytes,
 ) -> Result<Answer, OutOfMemory>
-    requires { AreTold core.old.outcomes }
-    ensures told { AreTold core.new.outcomes }
-    ensures out { (s : State) → StandsFor core.old s
-        → CarriedOut s (command.Scan from.now to.now) (view.Open core.new) result }
+    requires { StandsForSome core.old }
+    ensures told { StandsForSome core.new }
+    ensures out { (s : State) → StandsFor core.old s → IsBorne s
+        → CarriedOut options.now s (command.Scan from.now to.now) (view.Open core.new) result }
 {
     match core.scan(alloc, from.as_slice(), to.as_slice()) {
         Scanned::Rows(rows) => Ok(Answer::Rows(rows)),
+        Scanned::ReadFault { number, fault } => one(fault_reply(number, fault)),
         Scanned::OutOfMemory => Err(OutOfMemory),
     }
 }
@@ -156,14 +187,15 @@ fn scan<V: Device>(
 // Carries out a command that an open store itself answers.
 fn answer_on<V: Device>(
     alloc: Global,
+    options: &Options,
     core: &mut Core<V>,
     command: &Command,
 ) -> Result<Answer, OutOfMemory>
-    requires told { AreTold core.old.outcomes }
+    requires told { StandsForSome core.old }
     requires store { needs_store command.now ≡ true }
-    ensures told { AreTold core.new.outcomes }
-    ensures out { (s : State) → StandsFor core.old s
-        → CarriedOut s command.now (view.Open core.new) result }
+    ensures told { StandsForSome core.new }
+    ensures out { (s : State) → StandsFor core.old s → IsBorne s
+        → CarriedOut options.now s command.now (view.Open core.new) result }
 {
     match command {
         Command::Put { key, value, sync } => {
@@ -188,9 +220,10 @@ fn answer_on<V: Device>(
             one(queue_batch(core, del))
         }
         Command::Write => one(write(alloc, core)),
+        Command::ResumeStep => one(resume(alloc, core)),
         Command::Drain { moves } => one(drain(alloc, core, *moves)),
-        Command::Get { key } => get(alloc, core, key),
-        Command::Scan { from, to } => scan(alloc, core, from, to),
+        Command::Get { key } => get(alloc, options, core, key),
+        Command::Scan { from, to } => scan(alloc, options, core, from, to),
         _ => unreachable!(),
     }
 }
@@ -248,14 +281,14 @@ impl<V: Device> Store<V> {
         }
     }
 
-    // Opens a closed store. Where that is refused, it stays closed.
-    fn open(&mut self, alloc: Global) -> Result<Answer, OutOfMemory>
+    // Opens a closed store with these options. Where that is refused, it stays closed.
+    fn open(&mut self, alloc: Global, options: &Options) -> Result<Answer, OutOfMemory>
         requires { is_one_open self.old ≡ false }
         ensures { (s : State) → Stands self.old s → IsCovered s
-            → CarriedOut s command.Open self.new result }
+            → CarriedOut options.now s command.Open self.new result }
     {
         let device = self.held.take_device();
-        match Core::open(alloc, device) {
+        match Core::open(alloc, *options, device) {
             Ok(core) => {
                 let seq = core.last_seq();
                 self.held = Held::Open(core);
@@ -269,9 +302,9 @@ impl<V: Device> Store<V> {
     }
 
     // The files of the directory.
-    fn list(&mut self, alloc: Global) -> Result<Answer, OutOfMemory>
+    fn list(&mut self, alloc: Global, options: &Options) -> Result<Answer, OutOfMemory>
         ensures { (s : State) → Stands self.old s
-            → CarriedOut s command.Files self.new result }
+            → CarriedOut options.now s command.Files self.new result }
     {
         match &mut self.held {
             Held::Closed(device) => list_answer(device.list(alloc)),
@@ -281,9 +314,9 @@ impl<V: Device> Store<V> {
     }
 
     // Crashes a simulated device, which leaves the store closed.
-    fn crash(&mut self, alloc: Global, pick: Pick) -> Result<Answer, OutOfMemory>
+    fn crash(&mut self, alloc: Global, options: &Options, pick: Pick) -> Result<Answer, OutOfMemory>
         ensures { (s : State) → Stands self.old s → IsCovered s
-            → CarriedOut s (command.Crash pick.dirops pick.keep pick.garbage pick.seed) self.new result }
+            → CarriedOut options.now s (command.Crash pick.dirops pick.keep pick.garbage pick.seed) self.new result }
     {
         if !self.simulated() {
             return Ok(Answer::One(Reply::NotSimulated));
@@ -297,17 +330,22 @@ impl<V: Device> Store<V> {
         }
     }
 
-    /// Carries out a command.
-    pub fn answer(&mut self, alloc: Global, command: &Command) -> Result<Answer, OutOfMemory>
+    /// Carries out a command. An opening is made with these options.
+    pub fn answer(
+        &mut self,
+        alloc: Global,
+        options: &Options,
+        command: &Command,
+    ) -> Result<Answer, OutOfMemory>
         ensures { (s : State) → Stands self.old s → IsCovered s
-            → CarriedOut s command.now self.new result }
+            → CarriedOut options.now s command.now self.new result }
     {
         if let Some(reply) = rest_reply(self.is_open(), command) {
             return Ok(Answer::One(reply));
         }
         match command {
-            Command::Open => self.open(alloc),
-            Command::Files => self.list(alloc),
+            Command::Open => self.open(alloc, options),
+            Command::Files => self.list(alloc, options),
             Command::Crash {
                 dirops,
                 keep,
@@ -315,6 +353,7 @@ impl<V: Device> Store<V> {
                 seed,
             } => self.crash(
                 alloc,
+                options,
                 Pick {
                     dirops: *dirops,
                     keep: *keep,
@@ -323,7 +362,7 @@ impl<V: Device> Store<V> {
                 },
             ),
             _ => match &mut self.held {
-                Held::Open(core) => answer_on(alloc, core, command),
+                Held::Open(core) => answer_on(alloc, options, core, command),
                 _ => unreachable!(),
             },
         }

@@ -66,13 +66,15 @@ fn output_failing(alloc: Global, input: &[u8], call: Call, skip: u64) -> Result<
     output_over(alloc, input, device)
 }
 
-const PUTS: &[u8] = b"open\nput a 1 sync\nput b 2\nput c 3 sync\nput d 4\ncrash 0 0 0 1\nopen\n";
+const PUTS: &[u8] =
+    b"open\ndrain 100\nput a 1 sync\nput b 2\nput c 3 sync\nput d 4\ncrash 0 0 0 1\nopen\n";
 
+// A boot appends an edit and a name before the puts.
 #[test]
 fn a_failing_append_loses_what_is_not_synced(rt: HostRuntime) -> Result<(), Fail> {
-    let out = output_failing(rt.alloc(), PUTS, Call::Append, 2)?;
+    let out = output_failing(rt.alloc(), PUTS, Call::Append, 4)?;
     let told =
-        b"opened 0\nok 1\nok 2\nfailed wal retryable\nstopped wal retryable\ncrashed\nopened 1\n";
+        b"opened 0\nquiet\nok 1\nok 2\nfailed wal retryable\nstopped wal retryable\ncrashed\nopened 1\n";
     assert_eq!(rt; out.as_slice(), told.as_slice());
     Ok(())
 }

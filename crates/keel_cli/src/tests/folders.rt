@@ -22,9 +22,10 @@ fn output_in(rt: &HostRuntime, path: &str, budget: u64, input: &[u8]) -> Result<
 fn a_folder_survives_the_run(rt: HostRuntime) -> Result<(), Fail> {
     let path = own_path(&rt, "kept")?;
     fs::create_dir(&rt, path.as_str())?;
-    let out = output_in(&rt, path.as_str(), 60, b"open\nput a 1 sync\n")?;
-    assert_eq!(rt; out.as_slice(), b"opened 0\nok 1\n".as_slice());
-    let out = output_in(&rt, path.as_str(), 60, b"open\nget a\ncrash 0 0 0 1\n")?;
+    // A manifest of 40 bytes, CURRENT of 16 and a log of 24.
+    let out = output_in(&rt, path.as_str(), 80, b"open\ndrain 100\nput a 1 sync\n")?;
+    assert_eq!(rt; out.as_slice(), b"opened 0\nquiet\nok 1\n".as_slice());
+    let out = output_in(&rt, path.as_str(), 80, b"open\nget a\ncrash 0 0 0 1\n")?;
     assert_eq!(rt;
         out.as_slice(),
         b"opened 1\nvalue 1\nnot-simulated\n".as_slice()

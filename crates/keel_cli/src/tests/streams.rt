@@ -55,10 +55,15 @@ fn check<R: Abort + AllocGlobal>(
 fn a_run_is_answered(rt: HostRuntime) -> Result<(), Fail> {
     let wanted = Wanted {
         status: 0,
-        out: b"opened 0\nok 1\nvalue 1\n",
+        out: b"opened 0\nquiet\nok 1\nvalue 1\n",
         err: b"",
     };
-    check(&rt, b"open\nput a 1 sync\nget a\n", NONE, &wanted)
+    check(
+        &rt,
+        b"open\ndrain 100\nput a 1 sync\nget a\n",
+        NONE,
+        &wanted,
+    )
 }
 
 // What was taken before the fault was carried out.

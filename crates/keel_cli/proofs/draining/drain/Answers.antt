@@ -1,41 +1,87 @@
-use Rattle.std.proofs.Common.{None, refl, subst, ap, arith, Ok}
-use Rattle.keel_machine.specs.declared.steps.WriteStep.{WriteStep}
+use Rattle.std.proofs.Common.{◌+◌, ◌<◌, ◌≤◌, None, refl, subst, arith}
 use Rattle.keel_machine.specs.Turns.{Writing}
+use Rattle.keel_machine.specs.declared.steps.ResumeStep.{ResumeStep}
+use Rattle.keel_machine.specs.declared.steps.WriteStep.{WriteStep}
+use Rattle.keel_core.specs.Resuming.{ResumesTurn}
 use Rattle.keel_core.specs.Views.{TakesTurn}
-use Rattle.keel_cli.proofs.Moving.{moved_on, quiet_run, more_run, want_cut, step_told}
+use Rattle.keel_cli.proofs.Moving.{booted, boot_told, boot_wants, more_by_boot, more_run, none_gone, quiet_run, round_gone, round_of, step_told, write_wants}
+use Rattle.keel_cli.proofs.OnErr.{on_err_always}
 use Rattle.keel_cli.proofs.draining.drain.Goals as goal
 
-pub moving-preserved : goal.moving-preserved
-moving-preserved g c =
-    let core = c.moving.core in
-    let step = c.write_step-step in
+pub rounds-init : goal.rounds-init
+rounds-init g c = record { goes = none_gone c.args.moves c.args.core.now; few = omega arith; told = c.requires.told }
+
+pub returns-in_err-booted-clause-cut : goal.returns-in_err-booted-clause-cut
+returns-in_err-booted-clause-cut g c s stands =
+    let step = c.resume_step-step in
+    let want = subst (λ (made : ResumeStep). ResumesTurn c.rounds.core None made step.new.self) (c.in_err-booted.ensures.cut refl) step.ensures.turn in
+    on_err_always c.from_residual.result (boot_wants c.args.moves c.args.core.now c.rounds.core step.new.self c.rounds.made c.rounds.invariant.goes c.rounds-test.true want s stands)
+
+pub returns-in_err-booted-clause-told : goal.returns-in_err-booted-clause-told
+returns-in_err-booted-clause-told g c =
+    let step = c.resume_step-step in
+    boot_told c.rounds.core step.new.self step.result step.ensures.turn c.rounds.invariant.told
+
+pub returns-then-made-booted-clause-carried : goal.returns-then-made-booted-clause-carried
+returns-then-made-booted-clause-carried g c =
+    let step = c.resume_step-step in
+    more_by_boot c.args.moves c.args.core.now step.new.self c.rounds.made c.in_ok-booted.booted
+    (booted c.args.moves c.args.core.now c.rounds.core step.new.self c.rounds.made c.in_ok-booted.booted step.result c.rounds.invariant.goes c.rounds-test.true step.ensures.turn c.in_ok-booted.ensures.moves)
+    c.if-made-booted.true
+
+pub returns-then-made-booted-clause-told : goal.returns-then-made-booted-clause-told
+returns-then-made-booted-clause-told g c =
+    let step = c.resume_step-step in
+    boot_told c.rounds.core step.new.self step.result step.ensures.turn c.rounds.invariant.told
+
+pub returns-in_err-written-clause-cut : goal.returns-in_err-written-clause-cut
+returns-in_err-written-clause-cut g c s stands =
+    let step = c.resume_step-step in
+    let made = c.write_step-step in
+    let want = subst (λ (w : WriteStep). TakesTurn step.new.self (Writing None w) made.new.self) (c.in_err-written.ensures.cut refl) made.ensures.turn in
+    let left : c.rounds.made + c.in_ok-booted.booted < c.args.moves = omega (arith, c.rounds-test.true, c.in_ok-booted.ensures.few, c.if-made-booted.false) in
+    on_err_always c.from_residual-in_err-written.result (write_wants c.args.moves c.args.core.now step.new.self made.new.self c.rounds.made c.in_ok-booted.booted
+    (booted c.args.moves c.args.core.now c.rounds.core step.new.self c.rounds.made c.in_ok-booted.booted step.result c.rounds.invariant.goes c.rounds-test.true step.ensures.turn c.in_ok-booted.ensures.moves)
+    left want s stands)
+
+pub returns-in_err-written-clause-told : goal.returns-in_err-written-clause-told
+returns-in_err-written-clause-told g c =
+    let step = c.resume_step-step in
+    let made = c.write_step-step in
+    step_told step.new.self made.new.self made.result made.ensures.turn (boot_told c.rounds.core step.new.self step.result step.ensures.turn c.rounds.invariant.told)
+
+pub returns-then-booted-written-eq0-clause-carried : goal.returns-then-booted-written-eq0-clause-carried
+returns-then-booted-written-eq0-clause-carried g c =
+    let step = c.resume_step-step in
+    let made = c.write_step-step in
+    let left : c.rounds.made + c.in_ok-booted.booted < c.args.moves = omega (arith, c.rounds-test.true, c.in_ok-booted.ensures.few, c.if-made-booted.false) in
+    quiet_run c.args.moves c.args.core.now made.new.self c.rounds.made (c.in_ok-booted.booted + c.in_ok-written.written) c.if-booted-written-eq0.true
+    (round_of c.args.moves c.args.core.now step.new.self made.new.self c.rounds.made c.in_ok-booted.booted c.in_ok-written.written made.result
+    (booted c.args.moves c.args.core.now c.rounds.core step.new.self c.rounds.made c.in_ok-booted.booted step.result c.rounds.invariant.goes c.rounds-test.true step.ensures.turn c.in_ok-booted.ensures.moves)
+    left made.ensures.turn c.in_ok-written.ensures.moves)
+
+pub returns-then-booted-written-eq0-clause-told : goal.returns-then-booted-written-eq0-clause-told
+returns-then-booted-written-eq0-clause-told g c =
+    let step = c.resume_step-step in
+    let made = c.write_step-step in
+    step_told step.new.self made.new.self made.result made.ensures.turn (boot_told c.rounds.core step.new.self step.result step.ensures.turn c.rounds.invariant.told)
+
+pub rounds-preserved : goal.rounds-preserved
+rounds-preserved g c =
+    let step = c.resume_step-step in
+    let made = c.write_step-step in
+    let left : c.rounds.made + c.in_ok-booted.booted < c.args.moves = omega (arith, c.rounds-test.true, c.in_ok-booted.ensures.few, c.if-made-booted.false) in
+    let some : 1 ≤ c.in_ok-booted.booted + c.in_ok-written.written = omega (arith, c.if-booted-written-eq0.false) in
     record {
-      goes = moved_on c.args.core.now core step.new.self c.moving.made step.result c.moving.invariant.goes step.ensures.turn (c.in-Ok-true.ensures.moved (ap Ok c.in-Ok-true.field-0-test));
-      few = omega (arith, c.moving-test.true);
-      told = step_told core step.new.self step.result step.ensures.turn c.moving.invariant.told;
+      goes =
+          round_gone c.args.moves c.args.core.now made.new.self c.rounds.made (c.in_ok-booted.booted + c.in_ok-written.written) some
+          (round_of c.args.moves c.args.core.now step.new.self made.new.self c.rounds.made c.in_ok-booted.booted c.in_ok-written.written made.result
+          (booted c.args.moves c.args.core.now c.rounds.core step.new.self c.rounds.made c.in_ok-booted.booted step.result c.rounds.invariant.goes c.rounds-test.true step.ensures.turn c.in_ok-booted.ensures.moves)
+          left made.ensures.turn c.in_ok-written.ensures.moves);
+      few = omega (arith, left, c.in_ok-written.ensures.few);
+      told = step_told step.new.self made.new.self made.result made.ensures.turn (boot_told c.rounds.core step.new.self step.result step.ensures.turn c.rounds.invariant.told);
     }
-
-pub returns-in-Ok-false-clause-carried : goal.returns-in-Ok-false-clause-carried
-returns-in-Ok-false-clause-carried g c =
-    let step = c.write_step-step in
-    quiet_run c.args.core.now c.moving.core step.new.self c.moving.made c.args.moves step.result c.moving.invariant.goes step.ensures.turn (c.in-Ok-false.ensures.rests (ap Ok c.in-Ok-false.field-0-test)) c.moving-test.true
-
-pub returns-in-Ok-false-clause-told : goal.returns-in-Ok-false-clause-told
-returns-in-Ok-false-clause-told g c =
-    let step = c.write_step-step in
-    step_told c.moving.core step.new.self step.result step.ensures.turn c.moving.invariant.told
-
-pub returns-in-Err-clause-cut : goal.returns-in-Err-clause-cut
-returns-in-Err-clause-cut g c =
-    let step = c.write_step-step in
-    let want = subst (λ (made : WriteStep). TakesTurn c.moving.core (Writing None made) step.new.self) (c.in-Err.ensures.cut refl) step.ensures.turn in
-    want_cut c.args.core.now c.moving.core step.new.self c.moving.made c.args.moves c.moving.invariant.goes want c.moving-test.true
-
-pub returns-in-Err-clause-told : goal.returns-in-Err-clause-told
-returns-in-Err-clause-told g c =
-    let step = c.write_step-step in
-    step_told c.moving.core step.new.self step.result step.ensures.turn c.moving.invariant.told
 
 pub returns-clause-carried : goal.returns-clause-carried
 returns-clause-carried g c =
-    more_run c.args.core.now c.moving.core c.moving.made c.args.moves c.moving.invariant.goes (omega (arith, c.moving.invariant.few, c.moving-test.false))
+    more_run c.args.moves c.args.core.now c.rounds.core c.rounds.made c.rounds.invariant.goes (omega (arith, c.rounds.invariant.few, c.rounds-test.false))

@@ -2,11 +2,12 @@ use Rattle.std.proofs.Common.{refl, ◌∷◌}
 use Rattle.keel_machine.specs.declared.answers.Outcome.TheVariants as outcome
 use Rattle.keel_machine.specs.declared.steps.WriteStep.TheVariants as step
 use Rattle.keel_cli.proofs.OnErr.{on_err_always}
-use Rattle.keel_cli.proofs.PutTurns.{refused_run, refused_cut, refused_told, queued_gone, queued_known, settled_run, taken_told, never_unknown, step_gone, step_known, spent_run, want_cut, never_cancelled, never_wide}
+use Rattle.keel_cli.proofs.PutTurns.{refused_run, refused_cut, refused_told, queued_gone, queued_known, settled_run, taken_told, never_unknown, step_gone, step_known, stuck_run, want_cut, never_cancelled, never_wide}
+use Rattle.keel_cli.proofs.Tickets.{known_told}
 use Rattle.keel_cli.proofs.putting.put_batch.Goals as goal
 
 pub ticket_or_reply-requires : goal.ticket_or_reply-requires
-ticket_or_reply-requires g c = never_wide c.args.core.now c.admit.new.self c.args.batch c.admit.result c.admit.ensures.turn c.requires.one
+ticket_or_reply-requires g c = never_wide c.args.core.now c.admit.new.self c.args.batch c.admit.result c.requires.told c.admit.ensures.turn c.requires.one
 
 pub returns-in_err-ticket-clause-cut : goal.returns-in_err-ticket-clause-cut
 returns-in_err-ticket-clause-cut g c s stands =
@@ -28,11 +29,9 @@ pub writing-init : goal.writing-init
 writing-init g c =
     let is = rw c.in-Queued.is at c.in_ok-ticket.ensures.tells in
     let turn = rw is at c.admit.ensures.turn in
-    let known = queued_known c.args.core.now c.admit.new.self c.args.batch c.in-Queued.ticket turn c.requires.told in
     record {
       goes = queued_gone c.args.core.now c.admit.new.self c.args.batch c.in-Queued.ticket turn;
-      told = known.0;
-      known = known.1;
+      known = queued_known c.args.core.now c.admit.new.self c.args.batch c.in-Queued.ticket turn c.requires.told;
     }
 
 pub returns-in-Done-clause-carried : goal.returns-in-Done-clause-carried
@@ -42,7 +41,7 @@ returns-in-Done-clause-carried g c =
 
 pub returns-in-Done-clause-told : goal.returns-in-Done-clause-told
 returns-in-Done-clause-told g c =
-    taken_told c.writing.core c.take_outcome.new.self c.in-Queued.ticket (outcome.Done c.in-Done.seq) c.in-Done.ensures.turn c.writing.invariant.told
+    taken_told c.writing.core c.take_outcome.new.self c.in-Queued.ticket (outcome.Done c.in-Done.seq) c.in-Done.ensures.turn (known_told c.in-Queued.ticket c.writing.core c.writing.invariant.known)
 
 pub returns-in-Failed-clause-carried : goal.returns-in-Failed-clause-carried
 returns-in-Failed-clause-carried g c =
@@ -51,7 +50,7 @@ returns-in-Failed-clause-carried g c =
 
 pub returns-in-Failed-clause-told : goal.returns-in-Failed-clause-told
 returns-in-Failed-clause-told g c =
-    taken_told c.writing.core c.take_outcome.new.self c.in-Queued.ticket (outcome.Failed c.in-Failed.failure) c.in-Failed.ensures.turn c.writing.invariant.told
+    taken_told c.writing.core c.take_outcome.new.self c.in-Queued.ticket (outcome.Failed c.in-Failed.failure) c.in-Failed.ensures.turn (known_told c.in-Queued.ticket c.writing.core c.writing.invariant.known)
 
 pub returns-in-Turned-clause-carried : goal.returns-in-Turned-clause-carried
 returns-in-Turned-clause-carried g c =
@@ -60,11 +59,11 @@ returns-in-Turned-clause-carried g c =
 
 pub returns-in-Turned-clause-told : goal.returns-in-Turned-clause-told
 returns-in-Turned-clause-told g c =
-    taken_told c.writing.core c.take_outcome.new.self c.in-Queued.ticket (outcome.Turned c.in-Turned.failure) c.in-Turned.ensures.turn c.writing.invariant.told
+    taken_told c.writing.core c.take_outcome.new.self c.in-Queued.ticket (outcome.Turned c.in-Turned.failure) c.in-Turned.ensures.turn (known_told c.in-Queued.ticket c.writing.core c.writing.invariant.known)
 
 pub unreachable-requires : goal.unreachable-requires
 unreachable-requires g c =
-    never_unknown c.writing.core c.take_outcome.new.self c.in-Queued.ticket c.in-Unknown.ensures.turn c.writing.invariant.told c.writing.invariant.known
+    never_unknown c.writing.core c.take_outcome.new.self c.in-Queued.ticket c.in-Unknown.ensures.turn c.writing.invariant.known
 
 pub returns-in-OutOfMemory-clause-cut : goal.returns-in-OutOfMemory-clause-cut
 returns-in-OutOfMemory-clause-cut g c =
@@ -74,32 +73,43 @@ returns-in-OutOfMemory-clause-cut g c =
 
 pub returns-in-OutOfMemory-clause-told : goal.returns-in-OutOfMemory-clause-told
 returns-in-OutOfMemory-clause-told g c =
-    (step_known c.writing.core c.take_outcome.new.self c.write_step.new.self c.in-Queued.ticket step.OutOfMemory
-    c.writing.invariant.told c.in-Waiting.ensures.turn c.in-OutOfMemory.ensures.turn).0
+    known_told c.in-Queued.ticket c.write_step.new.self (step_known c.writing.core c.take_outcome.new.self c.write_step.new.self c.in-Queued.ticket step.OutOfMemory
+    c.writing.invariant.known c.in-Waiting.ensures.turn c.in-OutOfMemory.ensures.turn)
+
+pub returns-in-Full-clause-carried : goal.returns-in-Full-clause-carried
+returns-in-Full-clause-carried g c =
+    stuck_run c.args.core.now c.write_step.new.self c.args.batch c.in-Queued.ticket (step.Full c.in-Full.active c.in-Full.immutables) tt
+    (step_gone c.args.core.now c.writing.core c.take_outcome.new.self c.write_step.new.self c.args.batch c.in-Queued.ticket (step.Full c.in-Full.active c.in-Full.immutables)
+    c.writing.invariant.goes c.in-Waiting.ensures.turn c.in-Full.ensures.turn)
+
+pub returns-in-Full-clause-told : goal.returns-in-Full-clause-told
+returns-in-Full-clause-told g c =
+    known_told c.in-Queued.ticket c.write_step.new.self (step_known c.writing.core c.take_outcome.new.self c.write_step.new.self c.in-Queued.ticket (step.Full c.in-Full.active c.in-Full.immutables)
+    c.writing.invariant.known c.in-Waiting.ensures.turn c.in-Full.ensures.turn)
 
 pub returns-in-Spent-clause-carried : goal.returns-in-Spent-clause-carried
 returns-in-Spent-clause-carried g c =
-    spent_run c.args.core.now c.write_step.new.self c.args.batch c.in-Queued.ticket c.in-Spent.field-0
+    stuck_run c.args.core.now c.write_step.new.self c.args.batch c.in-Queued.ticket (step.Spent c.in-Spent.field-0) tt
     (step_gone c.args.core.now c.writing.core c.take_outcome.new.self c.write_step.new.self c.args.batch c.in-Queued.ticket (step.Spent c.in-Spent.field-0)
     c.writing.invariant.goes c.in-Waiting.ensures.turn c.in-Spent.ensures.turn)
 
 pub returns-in-Spent-clause-told : goal.returns-in-Spent-clause-told
 returns-in-Spent-clause-told g c =
-    (step_known c.writing.core c.take_outcome.new.self c.write_step.new.self c.in-Queued.ticket (step.Spent c.in-Spent.field-0)
-    c.writing.invariant.told c.in-Waiting.ensures.turn c.in-Spent.ensures.turn).0
+    known_told c.in-Queued.ticket c.write_step.new.self (step_known c.writing.core c.take_outcome.new.self c.write_step.new.self c.in-Queued.ticket (step.Spent c.in-Spent.field-0)
+    c.writing.invariant.known c.in-Waiting.ensures.turn c.in-Spent.ensures.turn)
 
 pub unreachable-requires-in-Cancelled : goal.unreachable-requires-in-Cancelled
 unreachable-requires-in-Cancelled g c =
-    never_cancelled c.take_outcome.new.self c.write_step.new.self c.in-Cancelled.job c.in-Cancelled.current c.in-Cancelled.ensures.turn
+    let told = taken_told c.writing.core c.take_outcome.new.self c.in-Queued.ticket outcome.Waiting c.in-Waiting.ensures.turn (known_told c.in-Queued.ticket c.writing.core c.writing.invariant.known) in
+    never_cancelled c.take_outcome.new.self c.write_step.new.self c.in-Cancelled.job c.in-Cancelled.current told c.in-Cancelled.ensures.turn
 
 pub writing-preserved : goal.writing-preserved
 writing-preserved g c =
     let gone = step_gone c.args.core.now c.writing.core c.take_outcome.new.self c.write_step.new.self c.args.batch c.in-Queued.ticket c.write_step.result
     c.writing.invariant.goes c.in-Waiting.ensures.turn c.write_step.ensures.turn in
-    let known = step_known c.writing.core c.take_outcome.new.self c.write_step.new.self c.in-Queued.ticket c.write_step.result
-    c.writing.invariant.told c.in-Waiting.ensures.turn c.write_step.ensures.turn in
     record {
       goes = λ s stands. let next = gone s stands in (next.0, next.1, (c.write_step.result ∷ next.2.0, next.2.1));
-      told = known.0;
-      known = known.1;
+      known =
+          step_known c.writing.core c.take_outcome.new.self c.write_step.new.self c.in-Queued.ticket c.write_step.result
+          c.writing.invariant.known c.in-Waiting.ensures.turn c.write_step.ensures.turn;
     }

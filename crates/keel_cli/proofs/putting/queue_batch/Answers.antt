@@ -4,7 +4,7 @@ use Rattle.keel_cli.proofs.PutTurns.{queue_cut, queue_refused, queue_run, refuse
 use Rattle.keel_cli.proofs.putting.queue_batch.Goals as goal
 
 pub ticket_or_reply-requires : goal.ticket_or_reply-requires
-ticket_or_reply-requires g c = never_wide c.args.core.now c.admit.new.self c.args.batch c.admit.result c.admit.ensures.turn c.requires.one
+ticket_or_reply-requires g c = never_wide c.args.core.now c.admit.new.self c.args.batch c.admit.result c.requires.told c.admit.ensures.turn c.requires.one
 
 pub returns-in_err-ticket-clause-cut : goal.returns-in_err-ticket-clause-cut
 returns-in_err-ticket-clause-cut g c s stands =

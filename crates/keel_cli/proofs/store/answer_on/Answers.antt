@@ -1,5 +1,6 @@
 use Rattle.std.proofs.Common.{refl, inr}
-use Rattle.keel_script.specs.declared.command.Command.TheVariants.{Drain, Write}
+use Rattle.keel_script.specs.declared.command.Command.TheVariants.{Drain, ResumeStep, Write}
+use Rattle.keel_cli.specs.Boots.{BootRun, BootCut}
 use Rattle.keel_cli.specs.Drains.{DrainRun, DrainCut}
 use Rattle.keel_cli.specs.Puts.{put_batch, del_batch, PutRun, PutCut, QueueRun, QueueCut}
 use Rattle.keel_cli.specs.Writes.{WriteRun, WriteCut}
@@ -7,69 +8,77 @@ use Rattle.keel_cli.proofs.Carrying.{called, cut_before}
 use Rattle.keel_cli.proofs.store.answer_on.Goals as goal
 
 pub returns-in-Write-clause-out : goal.returns-in-Write-clause-out
-returns-in-Write-clause-out g c s stands =
+returns-in-Write-clause-out g c s stands borne =
     let ran = c.write in
     rw c.in-Write.is
-    (called s Write c.args.core.now ran.new.core ran.result c.one-in-Write.result
+    (called c.args.options.now s Write c.args.core.now ran.new.core ran.result c.one-in-Write.result
     (WriteRun s) (WriteCut s) stands refl (λ replies next run. run) (λ next cut. inr cut)
     c.one-in-Write.ensures.ok c.one-in-Write.ensures.err (ran.ensures.carried s stands) (ran.ensures.cut s stands))
 
+pub returns-in-ResumeStep-clause-out : goal.returns-in-ResumeStep-clause-out
+returns-in-ResumeStep-clause-out g c s stands borne =
+    let ran = c.resume in
+    rw c.in-ResumeStep.is
+    (called c.args.options.now s ResumeStep c.args.core.now ran.new.core ran.result c.one-in-ResumeStep.result
+    (BootRun s) (BootCut s) stands refl (λ replies next run. run) (λ next cut. inr cut)
+    c.one-in-ResumeStep.ensures.ok c.one-in-ResumeStep.ensures.err (ran.ensures.carried s stands) (ran.ensures.cut s stands))
+
 pub returns-in-Drain-clause-out : goal.returns-in-Drain-clause-out
-returns-in-Drain-clause-out g c s stands =
+returns-in-Drain-clause-out g c s stands borne =
     let ran = c.drain in
     rw c.in-Drain.is
-    (called s (Drain c.in-Drain.moves) c.args.core.now ran.new.core ran.result c.one-in-Drain.result
+    (called c.args.options.now s (Drain c.in-Drain.moves) c.args.core.now ran.new.core ran.result c.one-in-Drain.result
     (DrainRun c.in-Drain.moves s) (DrainCut c.in-Drain.moves s) stands refl (λ replies next run. run) (λ next cut. inr cut)
     c.one-in-Drain.ensures.ok c.one-in-Drain.ensures.err (ran.ensures.carried s stands) (ran.ensures.cut s stands))
 
 pub returns-in_err-put-in-Put-clause-out : goal.returns-in_err-put-in-Put-clause-out
-returns-in_err-put-in-Put-clause-out g c s stands = cut_before s c.args.command.now c.args.core.now c.from_residual.result c.from_residual.ensures.0 stands
+returns-in_err-put-in-Put-clause-out g c s stands borne = cut_before c.args.options.now s c.args.command.now c.args.core.now c.from_residual.result c.from_residual.ensures.0 stands
 
 pub returns-in_ok-put-in-Put-clause-out : goal.returns-in_ok-put-in-Put-clause-out
-returns-in_ok-put-in-Put-clause-out g c s stands =
+returns-in_ok-put-in-Put-clause-out g c s stands borne =
     let batch = put_batch c.in-Put.key c.in-Put.value c.in-Put.sync in
     let ran = c.put_batch in
     let is = c.in_ok-put-in-Put.ensures in
     rw c.in-Put.is
-    (called s _ c.args.core.now ran.new.core ran.result c.one.result
+    (called c.args.options.now s _ c.args.core.now ran.new.core ran.result c.one.result
     (PutRun s batch) (PutCut s batch) stands refl (λ replies next run. run) (λ next cut. inr cut)
     c.one.ensures.ok c.one.ensures.err (rw is at ran.ensures.carried s stands) (rw is at ran.ensures.cut s stands))
 
 pub returns-in_err-del-in-Del-clause-out : goal.returns-in_err-del-in-Del-clause-out
-returns-in_err-del-in-Del-clause-out g c s stands = cut_before s c.args.command.now c.args.core.now c.from_residual-in_err-del-in-Del.result c.from_residual-in_err-del-in-Del.ensures.0 stands
+returns-in_err-del-in-Del-clause-out g c s stands borne = cut_before c.args.options.now s c.args.command.now c.args.core.now c.from_residual-in_err-del-in-Del.result c.from_residual-in_err-del-in-Del.ensures.0 stands
 
 pub returns-in_ok-del-in-Del-clause-out : goal.returns-in_ok-del-in-Del-clause-out
-returns-in_ok-del-in-Del-clause-out g c s stands =
+returns-in_ok-del-in-Del-clause-out g c s stands borne =
     let batch = del_batch c.in-Del.key c.in-Del.sync in
     let ran = c.put_batch-in-Del in
     let is = c.in_ok-del-in-Del.ensures in
     rw c.in-Del.is
-    (called s _ c.args.core.now ran.new.core ran.result c.one-in-Del.result
+    (called c.args.options.now s _ c.args.core.now ran.new.core ran.result c.one-in-Del.result
     (PutRun s batch) (PutCut s batch) stands refl (λ replies next run. run) (λ next cut. inr cut)
     c.one-in-Del.ensures.ok c.one-in-Del.ensures.err (rw is at ran.ensures.carried s stands) (rw is at ran.ensures.cut s stands))
 
 pub returns-in_err-put-in-QueuePut-clause-out : goal.returns-in_err-put-in-QueuePut-clause-out
-returns-in_err-put-in-QueuePut-clause-out g c s stands = cut_before s c.args.command.now c.args.core.now c.from_residual-in_err-put-in-QueuePut.result c.from_residual-in_err-put-in-QueuePut.ensures.0 stands
+returns-in_err-put-in-QueuePut-clause-out g c s stands borne = cut_before c.args.options.now s c.args.command.now c.args.core.now c.from_residual-in_err-put-in-QueuePut.result c.from_residual-in_err-put-in-QueuePut.ensures.0 stands
 
 pub returns-in_ok-put-in-QueuePut-clause-out : goal.returns-in_ok-put-in-QueuePut-clause-out
-returns-in_ok-put-in-QueuePut-clause-out g c s stands =
+returns-in_ok-put-in-QueuePut-clause-out g c s stands borne =
     let batch = put_batch c.in-QueuePut.key c.in-QueuePut.value c.in-QueuePut.sync in
     let ran = c.queue_batch in
     let is = c.in_ok-put-in-QueuePut.ensures in
     rw c.in-QueuePut.is
-    (called s _ c.args.core.now ran.new.core ran.result c.one-in-QueuePut.result
+    (called c.args.options.now s _ c.args.core.now ran.new.core ran.result c.one-in-QueuePut.result
     (QueueRun s batch) (QueueCut s batch) stands refl (λ replies next run. run) (λ next cut. inr cut)
     c.one-in-QueuePut.ensures.ok c.one-in-QueuePut.ensures.err (rw is at ran.ensures.carried s stands) (rw is at ran.ensures.cut s stands))
 
 pub returns-in_err-del-in-QueueDel-clause-out : goal.returns-in_err-del-in-QueueDel-clause-out
-returns-in_err-del-in-QueueDel-clause-out g c s stands = cut_before s c.args.command.now c.args.core.now c.from_residual-in_err-del-in-QueueDel.result c.from_residual-in_err-del-in-QueueDel.ensures.0 stands
+returns-in_err-del-in-QueueDel-clause-out g c s stands borne = cut_before c.args.options.now s c.args.command.now c.args.core.now c.from_residual-in_err-del-in-QueueDel.result c.from_residual-in_err-del-in-QueueDel.ensures.0 stands
 
 pub returns-in_ok-del-in-QueueDel-clause-out : goal.returns-in_ok-del-in-QueueDel-clause-out
-returns-in_ok-del-in-QueueDel-clause-out g c s stands =
+returns-in_ok-del-in-QueueDel-clause-out g c s stands borne =
     let batch = del_batch c.in-QueueDel.key c.in-QueueDel.sync in
     let ran = c.queue_batch-in-QueueDel in
     let is = c.in_ok-del-in-QueueDel.ensures in
     rw c.in-QueueDel.is
-    (called s _ c.args.core.now ran.new.core ran.result c.one-in-QueueDel.result
+    (called c.args.options.now s _ c.args.core.now ran.new.core ran.result c.one-in-QueueDel.result
     (QueueRun s batch) (QueueCut s batch) stands refl (λ replies next run. run) (λ next cut. inr cut)
     c.one-in-QueueDel.ensures.ok c.one-in-QueueDel.ensures.err (rw is at ran.ensures.carried s stands) (rw is at ran.ensures.cut s stands))

@@ -9,4 +9,4 @@ returns g c session stands covered =
     let same = c.in_default.ensures.same in
     rw same
     (drives g.row.V.Denot c.args.self.now c.answer.new.self c.answer.result c.args.command.now session stands c.in_default.ensures.none
-    (c.answer.ensures session.store (rw same stands.store) covered))
+    (rw (c.options.ensures.same, same, ← stands.options) at c.answer.ensures session.store stands.store covered))

@@ -8,7 +8,7 @@ use Rattle.keel_cli.proofs.store.Store.crash.Goals.{in-Ok, in-Err}
 pub returns-then-not-simulated : goal.returns-then-not-simulated
 returns-then-not-simulated g c s stands covered =
     let pick = c.args.pick in
-    not_crashed_on s pick.dirops pick.keep pick.garbage pick.seed c.args.self.now stands (sym (c.if-not-simulated.ensures s stands))
+    not_crashed_on c.args.options.now s pick.dirops pick.keep pick.garbage pick.seed c.args.self.now stands (sym (c.if-not-simulated.ensures s stands))
 
 pub returns : goal.returns
 returns g c s stands covered =
@@ -22,10 +22,10 @@ returns g c s stands covered =
     elim c.match-crashed.branch [
       | in-Ok w ↦
           rw w.result-is
-          (crashed s pick.dirops pick.keep pick.garbage pick.seed behind covered
+          (crashed c.args.options.now s pick.dirops pick.keep pick.garbage pick.seed behind covered
           (dropped s pick before behind w.in-Ok.field-0 is simulated (rw w.in-Ok.is at did.answer) (rw w.in-Ok.is at did.told) (rw w.in-Ok.is at did.rest)))
       | in-Err w ↦
           rw w.result-is
-          (crash_cut s pick.dirops pick.keep pick.garbage pick.seed behind _
+          (crash_cut c.args.options.now s pick.dirops pick.keep pick.garbage pick.seed behind _
           (stayed pick before behind w.in-Err.field-0 (rw w.in-Err.is at did.told) (rw w.in-Err.is at did.rest) ∙ sym is))
     ]

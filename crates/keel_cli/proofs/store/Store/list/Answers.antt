@@ -1,7 +1,7 @@
 use Rattle.std.proofs.Common.{true, false, refl}
 use Rattle.keel_disk.specs.Seen.{Seen}
 use Rattle.keel_machine.specs.Turns.{after, Listing}
-use Rattle.keel_cli.specs.Stores.{Stands, AreTold, Closed, Open}
+use Rattle.keel_cli.specs.Stores.{Stands, StandsForSome, Closed, Open}
 use Rattle.keel_cli.proofs.Carrying.{listed, list_answers, list_told, open_mode, open_device}
 use Rattle.keel_cli.proofs.store.Store.list.Goals as goal
 use Rattle.keel_cli.proofs.store.Store.list.Goals.{in-Closed, in-Open}
@@ -11,7 +11,7 @@ invariant_of-self g c =
     elim c.match-self.branch [
       | in-Closed w ↦ rw w.self-inside-is tt
       | in-Open w ↦
-          let told : AreTold w.in-Open.core.outcomes = rw w.in-Open.is at c.self.invariant in
+          let told : StandsForSome w.in-Open.core = rw w.in-Open.is at c.self.invariant in
           rw w.self-inside-is (list_told w.in-Open.core w.list-in-Open.new.self w.list-in-Open.result w.list-in-Open.ensures.turn told)
     ]
 
@@ -25,7 +25,7 @@ returns g c s stands =
           let did = w.list.ensures in
           let answers = list_answers s (D.seen w.in-Closed.device) shows w.list.result shut.device did.listing did.order did.quiet in
           rw (w.self-inside-is, w.result-is)
-          (listed s (after s (Listing w.list.result) shows) (Closed shows) false w.list.result w.list_answer.result shut.shut
+          (listed c.args.options.now s (after s (Listing w.list.result) shows) (Closed shows) false w.list.result w.list_answer.result shut.shut
           (record { shut = shut.shut; device = refl }) refl (answers, refl) w.list_answer.ensures.ok w.list_answer.ensures.err)
       | in-Open w ↦
           let core = w.list-in-Open.new.self in
@@ -33,6 +33,6 @@ returns g c s stands =
           let gone = w.list-in-Open.ensures.turn.goes s stood in
           let next = after s (Listing w.list-in-Open.result) core.device in
           rw (w.self-inside-is, w.result-is)
-          (listed s next (Open core) true w.list-in-Open.result w.list_answer-in-Open.result (open_mode w.in-Open.core s stood)
+          (listed c.args.options.now s next (Open core) true w.list-in-Open.result w.list_answer-in-Open.result (open_mode w.in-Open.core s stood)
           gone.1 (open_device core next gone.1) (gone.0, refl) w.list_answer-in-Open.ensures.ok w.list_answer-in-Open.ensures.err)
     ]
