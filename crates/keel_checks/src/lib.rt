@@ -1,4 +1,5 @@
-//! Tests that stand on several layers: the engine, the deleter, the manifest and the boot over the device in memory.
+//! Tests that stand on several layers: logs, openings, the deleter, the manifest and the boot's job over the device in
+//! memory.
 //!
 //! It gives nothing to other crates. The layers' own tests need no device, so that a change of the device in memory
 //! proves the program and these tests again, and no layer between.
@@ -6,8 +7,6 @@
 
 #[cfg(test)]
 mod deletions;
-#[cfg(test)]
-mod engine;
 #[cfg(test)]
 mod logs;
 #[cfg(test)]
