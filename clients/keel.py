@@ -12,8 +12,7 @@ What is durable when:
   opening.
 - One without `sync` is shown by reads once the call came back.
   A killed program doesn't lose it, and a power loss may.
-- What an earlier run left without `sync` is read by an opening and isn't made durable, neither by the opening nor by a
-  later `sync`.
+- What an earlier run left without `sync` is durable once an opening has booted, which a `Keel` does as it is made.
 - A write that raised `Failed` or `Ended` may be found by a later opening or not.
 
 One program at a time has a folder, and one thread at a time may use a `Keel`.
@@ -30,12 +29,40 @@ INPUT_LIMIT = 67108864
 QUEUE_LIMIT = 64
 """How many writes may wait at once."""
 
+BOOT = "drain 1000"
+"""The line that goes on with a boot, until it is answered `quiet`."""
+
+COPY = "files of the store were changed or are gone; lay the folder anew from a copy"
+ADVICE = {
+    "refused device": "another program has the folder, or it can't be read; end that program, or look at the folder",
+    "refused no-current": "CURRENT is gone, or an older Keel wrote the folder; lay the folder anew from a copy",
+    "refused bad-current": COPY,
+    "refused damaged-manifest": COPY,
+    "refused missing-table": COPY,
+    "refused bad-table": COPY,
+    "refused bad-log": COPY,
+    "refused log-gap": COPY,
+    "booting": "the boot behind the opening failed; look whether the host has room, and open the store again",
+    "full": "close the store and open it again, or give it a greater write_buffer or max_immutables",
+    "read-fault": "a table can't be read; look at the folder, and open the store again",
+    "bad-check": COPY,
+    "bad-shape": COPY,
+    "absent-table": COPY,
+    "stopped": "close the store, look whether the host has room, and open it again",
+    "failed": "close the store, look whether the host has room, and open it again",
+}
+"""What to do about some replies, by the words that they begin with."""
+
 
 class KeelError(Exception):
-    """What every error of this module is. `words` has the words of the reply, or of the client."""
+    """What every error of this module is. `words` has the words of the reply, or of the client.
+
+    Its text has them too, and what to do about it where that can be told.
+    """
 
     def __init__(self, words):
-        super().__init__(words)
+        advice = next((advice for begin, advice in ADVICE.items() if f"{words} ".startswith(f"{begin} ")), None)
+        super().__init__(words if advice is None else f"{words}: {advice}")
         self.words = words
 
 
@@ -43,6 +70,7 @@ class Refused(KeelError):
     """The store refused what was asked, and nothing of it was done.
 
     An opening has `refused ..`: another program has the folder, or its files can't be read as a store.
+    An option out of its range has `bad-option ..`.
     """
 
 
@@ -52,6 +80,14 @@ class BadSize(Refused):
 
 class QueueFull(Refused):
     """`queue-full`: too many writes wait already."""
+
+
+class Booting(Refused):
+    """`booting`: the boot behind the opening failed, so nothing is written. Reads go on."""
+
+
+class Full(Refused):
+    """`full`: the segments in memory are full. Reads go on, and an opening has room again."""
 
 
 class NotOpen(Refused):
@@ -82,7 +118,11 @@ class Stopped(KeelError):
 
 
 class Waiting(KeelError):
-    """`waiting`: the write was admitted, and no number is left for its group or its log."""
+    """`waiting`: the write was admitted and waits, since the segments became full or no number is left for it."""
+
+
+class ReadFault(KeelError):
+    """`read-fault`, `bad-check`, `bad-shape` or `absent-table`: a read needs a table that can't be read."""
 
 
 class Ended(KeelError):
@@ -102,7 +142,10 @@ class BadReply(KeelError):
 
 REFUSALS = {
     "refused": Refused,
+    "bad-option": Refused,
     "bad-size": BadSize,
+    "booting": Booting,
+    "full": Full,
     "queue-full": QueueFull,
     "not-open": NotOpen,
     "spent": Spent,
@@ -110,6 +153,10 @@ REFUSALS = {
     "stopped": Stopped,
     "turned": Stopped,
     "waiting": Waiting,
+    "read-fault": ReadFault,
+    "bad-check": ReadFault,
+    "bad-shape": ReadFault,
+    "absent-table": ReadFault,
 }
 
 
@@ -151,19 +198,23 @@ def number(text):
 class Keel:
     """A store in the folder `path`, which must be there. `program` is the program of Keel.
 
-    It is opened at once.
+    `options` has numbers by their names, as `{"write_buffer": 1048576}`; they are this opening's alone.
+    It is opened at once, and booted. Where the boot fails reads go on, and writes raise `Booting`.
     Raises `Refused` where the store can't be opened, `Ended` where the program ends at once, and OSError where there
     is no program.
     `sequence` has the number of the last op that the opening found.
     """
 
-    def __init__(self, path, program="keel"):
+    def __init__(self, path, program="keel", options=None):
         self._sent = 0
         self._child = subprocess.Popen(
             [program, "dir", path], stdin=subprocess.PIPE, stdout=subprocess.PIPE, stderr=subprocess.PIPE
         )
         try:
+            for name, value in (options or {}).items():
+                self._set_option(name, value)
             self.sequence = self._number_of("open", "opened")
+            self._boot()
         except BaseException:
             self._end(kill=True)
             raise
@@ -248,6 +299,20 @@ class Keel:
         if refusal is not None:
             raise refusal
         return last
+
+    def _set_option(self, name, value):
+        line = f"option {name} {value}"
+        words = self._ask(line)
+        if words != line.split(" "):
+            self._give_up(line, words)
+
+    def _boot(self):
+        """Goes on with the boot until it rests."""
+        words = self._ask(BOOT)
+        while words == ["more"]:
+            words = self._ask(BOOT)
+        if words != ["quiet"]:
+            self._give_up(BOOT, words)
 
     def _write_out(self, queued):
         """Makes steps of writing until so many queued writes are answered; gives the number of the last op."""

@@ -6,11 +6,13 @@ It plays the client against a dict with random bytes, kills the child in between
 
 import os
 import random
+import subprocess
 import sys
 import tempfile
 import unittest
 
-from keel import BadReply, BadSize, Ended, Failed, Keel, NotOpen, QueueFull, Refused, Stopped, TooLong, decode, encode
+from keel import (BadReply, BadSize, Booting, Ended, Failed, Full, Keel, NotOpen, QueueFull, ReadFault, Refused,
+                  Stopped, TooLong, decode, encode)
 
 PROGRAM = "keel"
 SEED = 20481
@@ -42,16 +44,26 @@ class FolderTest(unittest.TestCase):
         self.addCleanup(room.cleanup)
         self.path = room.name
 
-    def open(self):
-        return Keel(self.path, PROGRAM)
+    def open(self, options=None):
+        return Keel(self.path, PROGRAM, options)
 
-    def program_that_answers(self, reply):
-        """A program that answers each line with this one."""
-        path = os.path.join(self.path, "answers")
-        with open(path, "w", encoding="ascii") as file:
-            file.write(f"#!/bin/sh\nwhile read -r line; do echo '{reply}'; done\n")
-        os.chmod(path, 0o700)
-        return path
+    def file(self, name):
+        return os.path.join(self.path, name)
+
+    def script(self, name, lines):
+        """A program of these lines of sh."""
+        with open(self.file(name), "w", encoding="utf-8") as file:
+            file.write("#!/bin/sh\n" + lines)
+        os.chmod(self.file(name), 0o700)
+        return self.file(name)
+
+    def program_that_answers(self, reply, opening=None, boot="quiet"):
+        """A program that answers each line with this one, but `open` and the boot as is said beside it."""
+        opening, boot = (reply, reply) if opening is None else (opening, boot)
+        return self.script("answers", f"""while read -r line; do
+    case $line in open) echo '{opening}';; drain*) echo '{boot}';; *) echo '{reply}';; esac
+done
+""")
 
 
 class CallTest(FolderTest):
@@ -125,9 +137,119 @@ class OpeningTest(FolderTest):
         self.assertEqual(told.exception.status, -9)
 
     def test_reply_that_does_not_fit(self):
-        for reply in ("what", "opened", "opened -1", "opened 01", ""):
+        for reply in ("what", "opened", "opened -1", "opened 01", "", "opened 0"):
             with self.assertRaises(BadReply):
                 Keel(self.path, self.program_that_answers(reply))
+
+    def test_options(self):
+        with self.assertRaises(Refused) as told:
+            self.open({"write_buffer": 0})
+        self.assertEqual(told.exception.words, "bad-option write_buffer 1 67108864")
+        with self.assertRaises(Ended) as told:
+            self.open({"buffers": 1})
+        self.assertEqual(told.exception.status, 3)
+
+    def test_full(self):
+        with self.open({"write_buffer": 18, "max_immutables": 1}) as store:
+            store.put(b"a", b"1")
+            store.put(b"b", b"2")
+            with self.assertRaises(Full) as told:
+                store.put(b"c", b"3")
+            self.assertEqual(told.exception.words, "full 18 1")
+            self.assertIn("open it again", str(told.exception))
+            with self.assertRaises(Full):
+                store.write([(b"c", b"3")])
+            self.assertEqual(store.scan(), [(b"a", b"1"), (b"b", b"2")])
+        with self.open() as store:
+            self.assertEqual(store.put(b"c", b"3"), 3)
+            self.assertEqual(store.scan(), [(b"a", b"1"), (b"b", b"2"), (b"c", b"3")])
+
+    def test_replies_that_refuse(self):
+        for reply, error in (("booting", Booting), ("full 18 1", Full), ("read-fault plain", ReadFault),
+                             ("bad-check 1 2", ReadFault), ("bad-shape 3", ReadFault), ("absent-table 4", ReadFault)):
+            with Keel(self.path, self.program_that_answers(reply, "opened 0")) as store:
+                for ask in (lambda: store.put(b"a", b"1"), lambda: store.get(b"a"), store.scan):
+                    with self.assertRaises(error) as told:
+                        ask()
+                    self.assertEqual(told.exception.words, reply)
+                    self.assertTrue(str(told.exception).startswith(f"{reply}: "))
+
+
+class DamageTest(FolderTest):
+    """A store of one table, whose files are changed by another hand."""
+
+    TABLE = "000003.sst"
+    MANIFEST = "MANIFEST-000005"
+    LOG = "000004.log"
+
+    def setUp(self):
+        super().setUp()
+        with self.open() as store:
+            store.put(b"a", b"1")
+        with self.open() as store:
+            store.put(b"b", b"2")
+
+    def read(self, name):
+        with open(self.file(name), "rb") as file:
+            return file.read()
+
+    def lay(self, name, content):
+        with open(self.file(name), "wb") as file:
+            file.write(content)
+
+    def spoil(self, name, at):
+        content = bytearray(self.read(name))
+        content[at] ^= 1
+        self.lay(name, content)
+
+    def check_refused(self, words):
+        with self.assertRaises(Refused) as told:
+            self.open()
+        self.assertEqual(told.exception.words, "refused " + words)
+        self.assertIn("a copy", str(told.exception))
+
+    def test_no_current(self):
+        os.remove(self.file("CURRENT"))
+        self.check_refused("no-current 000001.log")
+
+    def test_bad_current(self):
+        self.lay("CURRENT", self.MANIFEST.encode())
+        self.check_refused("bad-current " + self.MANIFEST)
+
+    def test_damaged_manifest(self):
+        self.spoil(self.MANIFEST, 20)
+        self.check_refused("damaged-manifest 0")
+
+    def test_absent_manifest(self):
+        os.remove(self.file(self.MANIFEST))
+        self.check_refused("damaged-manifest 0")
+
+    def test_missing_table(self):
+        os.remove(self.file(self.TABLE))
+        self.check_refused("missing-table 3")
+
+    def test_bad_table(self):
+        self.spoil(self.TABLE, -1)
+        self.check_refused("bad-table 3")
+
+    def test_bad_log(self):
+        self.lay(self.LOG, self.read(self.MANIFEST))
+        self.check_refused("bad-log 4 0")
+
+    def test_log_gap(self):
+        self.lay(self.LOG, self.read("000001.log"))
+        self.check_refused("log-gap 4 2 1")
+
+    def test_damage_of_an_open_store(self):
+        with self.open() as store:
+            self.assertEqual(store.get(b"a"), b"1")
+            self.spoil(self.TABLE, 0)
+            for ask in (lambda: store.get(b"a"), store.scan):
+                with self.assertRaises(ReadFault) as told:
+                    ask()
+                self.assertTrue(told.exception.words.startswith("bad-check "))
+            self.assertEqual(store.get(b"b"), b"2")
+            store.put(b"a", b"3")
 
 
 class FailureTest(FolderTest):
@@ -135,17 +257,27 @@ class FailureTest(FolderTest):
 
     LONG = b"x" * 2000
 
-    def program_with_small_files(self):
-        path = os.path.join(self.path, "small")
-        with open(path, "w", encoding="utf-8") as file:
-            file.write(f"#!/bin/sh\ntrap '' XFSZ\nulimit -f 1\nexec '{PROGRAM}' \"$@\"\n")
-        os.chmod(path, 0o700)
-        return path
+    def open_store(self, program):
+        os.makedirs(self.file("store"), exist_ok=True)
+        return Keel(self.file("store"), program)
 
     def open_small(self):
-        folder = os.path.join(self.path, "store")
-        os.makedirs(folder, exist_ok=True)
-        return Keel(folder, self.program_with_small_files())
+        return self.open_store(self.script("small", f"trap '' XFSZ\nulimit -f 1\nexec '{PROGRAM}' \"$@\"\n"))
+
+    def test_boot_fails(self):
+        with self.open_store(PROGRAM) as store:
+            store.put(b"a", self.LONG)
+        with self.open_small() as store:
+            self.assertEqual(store.sequence, 1)
+            with self.assertRaises(Booting) as told:
+                store.put(b"b", b"2")
+            self.assertIn("has room", str(told.exception))
+            with self.assertRaises(Booting):
+                store.write([(b"b", b"2")])
+            self.assertEqual(store.get(b"a"), self.LONG)
+        with self.open_store(PROGRAM) as store:
+            self.assertEqual(store.put(b"b", b"2"), 2)
+            self.assertEqual(store.get(b"a"), self.LONG)
 
     def test_writes_stop(self):
         with self.open_small() as store:
@@ -227,9 +359,19 @@ class KillTest(FolderTest):
                 store._reply()
         return key, value
 
+    def kill_inside_a_boot(self):
+        """Opens the folder, and kills the program behind some calls of the boot."""
+        with subprocess.Popen([PROGRAM, "dir", self.path], stdin=subprocess.PIPE, stdout=subprocess.PIPE) as child:
+            child.stdin.write(b"open\ndrain %d\n" % self.random.randrange(1, 15))
+            child.stdin.flush()
+            self.assertTrue(child.stdout.readline().startswith(b"opened "))
+            child.stdout.readline()
+            child.kill()
+
     def test_kills(self):
         under_way = None
         for _ in range(ROUNDS):
+            self.kill_inside_a_boot()
             with self.open() as store:
                 found = dict(store.scan())
                 if under_way is not None and found != self.model:

@@ -3,17 +3,22 @@
 
 It records the system calls of runs of PROGRAM, and plays them back on a model of a file system that loses what wasn't
 synced. Behind each call it takes images of what a power cut may leave there, lays each into a folder of its own and
-opens the program over it. An image is right where the opening finds the map after a prefix of the writes that holds
-every synced write that was acknowledged by then, and where a further synced write is found by an opening behind it.
+opens the program over it. An image is right where these hold:
+- It opens, and the opening finds the map after a prefix of the writes, before its boot and behind it.
+- The prefix holds every synced write that was acknowledged by then, and all that a finished boot had found.
+- A further synced write is taken, and another opening finds the same map with it.
 
-A round is a few runs of the program over one folder, one behind the other; each but the last is killed on its way.
-A kill loses nothing, but what wasn't synced stays so, and a power cut in a later run may still lose it.
+A round is a few runs of the program over one folder, one behind the other. Each opens, boots and writes; each but the
+last ends on its way, some of them inside the boot. Then either the program alone is killed, which loses nothing, or
+the power is cut, and the next run goes on with an image.
+The segments are small, so that the log is switched again and again.
 
 The model of the file system:
 - fsync and fdatasync of a file make its bytes durable; fsync of the folder makes changes of its names durable.
 - A file keeps its durable bytes and any number of those behind them; the last of the kept may be garbage.
 - Of the changes of names and the cuts that wait, mode `first` keeps the first so many, in the order in which they
   were made, and mode `any` each or not. A cut waits until its file is synced.
+- In mode `any` the name under which a file was synced is durable too, as it is on the usual file systems of Linux.
 
 It needs strace. It prints counts, and ends with status 1 where an image isn't right.
 """
@@ -36,6 +41,9 @@ CALL = re.compile(r"^(\w+)\((.*)\)\s+= (\d+)")
 TEXT = re.compile(r'"((?:\\x[0-9a-f]{2})*)"')
 KEYS = [f"k{number}" for number in range(12)]
 
+# What goes on with a boot until it rests.
+BOOT = "drain 1000"
+
 # A system call that went well: its words as strace prints them, the texts among them, and what it answered.
 Call = collections.namedtuple("Call", "name words texts answer")
 
@@ -53,9 +61,10 @@ def said_by(call):
 class File:
     """A file: the bytes that are durable, and those that reads see."""
 
-    def __init__(self):
-        self.firm = b""
-        self.data = b""
+    def __init__(self, content=b""):
+        self.firm = content
+        self.data = content
+        self.synced = False
 
 
 class Folder:
@@ -127,6 +136,7 @@ class Folder:
             self.waiting = [change for change in self.waiting if change[0] == "cut"]
         else:
             file.firm = file.data
+            file.synced = True
             self.waiting = [change for change in self.waiting if change[0] != "cut" or change[3] is not file]
 
     def image(self, mode, chance):
@@ -134,13 +144,24 @@ class Folder:
         if mode == "first":
             kept = self.waiting[:chance.randint(0, len(self.waiting))]
         else:
-            kept = [change for change in self.waiting if chance.random() < 0.5]
+            kept = [change for change in self.waiting
+                    if change[0] == "link" and change[3].synced or chance.random() < 0.5]
         names = dict(self.firm_names)
         for change in kept:
             apply(change, names)
         cuts = {file: min(length for kind, length, _, of in kept if kind == "cut" and of is file)
                 for kind, _, _, file in kept if kind == "cut"}
         return {name: torn(file, file.firm[:cuts.get(file)], chance) for name, file in names.items()}
+
+    def lose_power(self, mode, chance):
+        """Lays an image into the folder, all of which is durable then."""
+        image = self.image(mode, chance)
+        for name in os.listdir(self.path):
+            os.remove(os.path.join(self.path, name))
+        lay(image, self.path)
+        self.names = {name: File(content) for name, content in image.items()}
+        self.firm_names = dict(self.names)
+        self.waiting = []
 
 
 def apply(change, names):
@@ -162,13 +183,17 @@ def torn(file, firm, chance):
 
 
 class Story:
-    """The writes in their order: how many were acknowledged, and how many an opening must find and may find."""
+    """The writes in their order: how many were acknowledged, and how many an opening must find and may find.
+
+    `is_cut` says that the run before ended with a power cut, which leaves durable bytes alone.
+    """
 
     def __init__(self):
         self.writes = []
         self.acknowledged = 0
         self.least = 0
         self.most = 0
+        self.is_cut = False
 
     def prefix_of(self, found):
         """The longest prefix that makes this map, and None where none does that holds all it must hold."""
@@ -193,15 +218,21 @@ def command_of(write):
     return (f"del {key}" if value is None else f"put {key} {value}") + (" sync" if synced else "")
 
 
-def rows_of(replies):
-    """The map that the replies to a scan say."""
-    rows = (reply.split(" ") for reply in replies if reply.startswith("row "))
-    return {row[1]: row[2] for row in rows}
+def maps_of(replies):
+    """The maps that the replies to scans say."""
+    maps, rows = [], {}
+    for reply in replies:
+        words = reply.split(" ")
+        if words[0] == "row":
+            rows[words[1]] = words[2]
+        elif words[0] == "rows":
+            maps.append(rows)
+            rows = {}
+    return maps
 
 
-def record(program, folder, writes, replies):
-    """Opens the program over a folder, scans, writes, and kills it behind so many replies to writes: its calls."""
-    commands = ["open", "scan % %"] + [command_of(write) for write in writes]
+def record(program, folder, commands, replies):
+    """Gives the program commands over a folder, and kills it behind so many replies that follow a scan: its calls."""
     with tempfile.TemporaryDirectory() as room:
         trace = pathlib.Path(room, "trace")
         words = ["strace", "-D", "-xx", "-s", "1048576", "-e", f"trace={TRACED}", "-o", trace, program, "dir", folder]
@@ -240,16 +271,20 @@ def lay(image, place):
 def judge(program, image, place, story):
     """Opens the program over an image, and says what is wrong, or that it is right."""
     lay(image, place)
-    replies = ask(program, place, "open", "scan % %", "put last word sync")
+    replies = ask(program, place, "open", "scan % %", BOOT, "scan % %", "put last word sync")
     if not replies[0].startswith("opened "):
         return " ".join(replies[0].split(" ")[:2])
-    found = rows_of(replies)
-    if story.prefix_of(found) is None:
+    maps = maps_of(replies)
+    if len(maps) != 2 or story.prefix_of(maps[0]) is None:
         return "wrong map"
-    if not replies[-1].startswith("ok "):
+    if "quiet" not in replies or not replies[-1].startswith("ok "):
         return "wrong answer to a further write"
-    again = rows_of(ask(program, place, "open", "scan % %"))
-    return "right" if again == found | {"last": "word"} else "wrong map behind a further write"
+    if maps[1] != maps[0]:
+        return "wrong map behind the boot"
+    again = ask(program, place, "open", "scan % %", BOOT, "scan % %")
+    if not again[0].startswith("opened "):
+        return "wrong opening behind the boot"
+    return "right" if maps_of(again) == [maps[0] | {"last": "word"}] * 2 else "wrong map behind a further write"
 
 
 def play_run(calls, head, program, folder, story, options, chance, results):
@@ -259,13 +294,15 @@ def play_run(calls, head, program, folder, story, options, chance, results):
     for call in calls:
         changed = folder.play(call)
         said += said_by(call)
-        answers = said.decode().splitlines()[head:]
+        lines = said.decode().splitlines()
+        answers = lines[head:]
         if not all(answer.startswith("ok ") for answer in answers):
             sys.exit(f"power_cut.py: a write wasn't taken: {answers[-1]}")
         story.acknowledged = mark + len(answers)
         story.most = min(story.acknowledged + 1, len(story.writes))
         synced = [count for count in range(mark, story.acknowledged) if story.writes[count][2]]
-        story.least = max([story.least] + [count + 1 for count in synced])
+        booted = mark if "quiet" in lines[:head] else 0
+        story.least = max([story.least, booted] + [count + 1 for count in synced])
         for mode in options.modes * options.images if changed else ():
             image = folder.image(mode, chance)
             with tempfile.TemporaryDirectory() as place:
@@ -276,18 +313,28 @@ def play_run(calls, head, program, folder, story, options, chance, results):
 
 
 def run_once(program, folder, story, options, chance, results, last):
-    """One run of the program, which goes on where the one before it was killed, and the images in it."""
-    sent = make_writes(options.writes, chance, len(story.writes))
-    calls = record(program, folder.path, sent, len(sent) if last else chance.randint(0, len(sent)))
+    """One run of the program, which goes on where the one before it ended, and the images in it."""
+    is_cut_off = not last and chance.random() < 0.3
+    sent = [] if is_cut_off else make_writes(options.writes, chance, len(story.writes))
+    boot = f"drain {chance.randint(1, 16)}" if is_cut_off else BOOT
+    small = [f"option write_buffer {60 * options.writes}", "option max_immutables 16"]
+    replies = len(sent) if last else chance.randint(0, len(sent))
+    calls = record(program, folder.path, small + ["open", "scan % %", boot] + [command_of(write) for write in sent],
+                   1 + replies)
     said = b"".join(said_by(call) for call in calls).decode().splitlines()
-    head = next((place + 1 for place, reply in enumerate(said) if reply.startswith("rows ")), 0)
-    found = story.prefix_of(rows_of(said[:head])) if head else None
-    if found is None or found < story.acknowledged:
-        results["wrong map behind a kill"] += 1
+    rows = next((place for place, reply in enumerate(said) if reply.startswith("rows ")), None)
+    found = None if rows is None else story.prefix_of(maps_of(said)[0])
+    if found is None or not story.is_cut and found < story.acknowledged:
+        results["wrong opening of a run"] += 1
         return False
+    if story.is_cut:
+        story.least = found
     story.writes = story.writes[:found] + sent
     story.most = found
-    play_run(calls, head, program, folder, story, options, chance, results)
+    play_run(calls, rows + 2, program, folder, story, options, chance, results)
+    story.is_cut = chance.random() < 0.5
+    if story.is_cut:
+        folder.lose_power(chance.choice(options.modes), chance)
     return True
 
 

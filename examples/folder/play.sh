@@ -39,7 +39,7 @@ wait "$first"
 mkdir "$room/full"
 if unshare -rm true 2>/dev/null; then
     unshare -rm sh -euc '
-        mount -t tmpfs -o size=4k tmpfs "$room/full"
+        mount -t tmpfs -o size=12k tmpfs "$room/full"
         sh "$room/play" full full
         sh "$room/play" full-later full
         mount -o remount,size=64k "$room/full"
