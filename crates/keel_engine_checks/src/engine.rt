@@ -1,15 +1,12 @@
 // The store over the device in memory. Each call of it stands in a function without clauses, so that a test's proof
 // doesn't meet all that the call ensures.
 mod boots;
-mod crashes;
 mod failures;
 mod openings;
 mod reads;
-mod recoveries;
-mod segments;
 mod writes;
 
-use keel_base::{Batch, Bytes, Call, Entry, Fault, FileName, Op, Ops, Options, Row};
+use keel_base::{Batch, Bytes, Call, Fault, Op, Ops, Options, Row};
 use keel_core::Core;
 use keel_disk::Rule;
 use keel_machine::{Admit, Got, Outcome, ResumeStep, Scanned, WriteStep};
@@ -114,11 +111,6 @@ fn ends(alloc: Global, core: &mut Store, job: u64, seq: u64, batches: u32) -> bo
     matches!(core.write_step(alloc, None), WriteStep::Done { job: number, seq: last, batches: count } if number == job && last == seq && count == batches)
 }
 
-/// Whether nothing waits.
-fn is_idle(alloc: Global, core: &mut Store) -> bool {
-    matches!(core.write_step(alloc, None), WriteStep::Idle)
-}
-
 /// What becomes of a batch. `Unknown` stands for one that isn't queued.
 fn write(alloc: Global, core: &mut Store, batch: Batch) -> Outcome {
     let Admit::Queued { ticket } = core.admit(batch) else {
@@ -152,11 +144,6 @@ fn has(alloc: Global, core: &mut Store, key: &[u8], value: &[u8]) -> bool {
     }
 }
 
-/// Whether a key has no value.
-fn lacks(alloc: Global, core: &mut Store, key: &[u8]) -> bool {
-    matches!(core.get(alloc, key), Got::Absent)
-}
-
 /// Whether a scan gives these rows, each of a key and a value of one byte.
 fn scans(alloc: Global, core: &mut Store, from: &[u8], to: &[u8], pairs: &[[u8; 2]]) -> bool {
     match core.scan(alloc, from, to) {
@@ -172,23 +159,6 @@ fn are_rows(rows: &[Row], pairs: &[[u8; 2]]) -> bool {
         }
     }
     rows.len() == pairs.len()
-}
-
-/// Whether the directory has these files of these sizes, in the order of their printed names.
-fn lists(alloc: Global, core: &mut Store, files: &[(FileName, u64)]) -> bool {
-    match core.list(alloc) {
-        Ok(found) => are_files(found.as_slice(), files),
-        Err(_) => false,
-    }
-}
-
-fn are_files(found: &[Entry], files: &[(FileName, u64)]) -> bool {
-    for (entry, (name, size)) in found.iter().zip(files) {
-        if entry.name != *name || entry.size != *size {
-            return false;
-        }
-    }
-    found.len() == files.len()
 }
 
 /// Behind so many calls of this kind the next one fails, and keeps so much.
@@ -207,14 +177,4 @@ fn fail_call(alloc: Global, core: &mut Store, call: Call, skip: u64, keep: u64) 
 fn is_trail(core: &Store, log: usize, limbo: usize, floor: usize) -> bool {
     let trail = core.trail();
     trail.log().len() == log && trail.limbo().len() == limbo && trail.floor() == floor
-}
-
-/// The directory of a store that booted and wrote one put.
-fn with_put(alloc: Global) -> Result<SimDisk, Fail> {
-    let mut core = new_store(alloc, Options::standard())?;
-    if puts(alloc, &mut core, b"a", b"1", 1)? {
-        Ok(core.finish())
-    } else {
-        Err(Fail::from("the put isn't published"))
-    }
 }
