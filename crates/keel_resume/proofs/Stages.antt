@@ -3,7 +3,7 @@ use Rattle.std.proofs.Common.{◌≡◌, ℕ, zero, suc, ◌+◌, ◌<◌, ◌�
 use Rattle.std.proofs.lemmas.List.{drop_more}
 use Rattle.std.specs.List.{flat_map}
 use Rattle.keel_manifest.specs.declared.roll.RollCall.TheVariants.{MakeManifest, AppendEdit, SyncManifest, MakeTemporary, AppendName, SyncTemporary, Rename, SyncDirectory}
-use Rattle.keel_resume.specs.Drafts.{Draft, pieces_in}
+use Rattle.keel_draft.specs.Drafts.{Draft, pieces_in}
 use Rattle.keel_resume.specs.Plans.{Act, MakeTable, AddPiece, SyncTable, MakeLog, SyncLogName, roll_acts, table_acts}
 use Rattle.keel_resume.specs.Courses.{IsStage, StageBehind, acts_before, acts_within, later_at, pieces_of}
 use Rattle.keel_resume.specs.declared.stage.Stage.{Stage}

@@ -13,7 +13,7 @@ use Rattle.keel_manifest.specs.State.{ManifestState}
 use Rattle.keel_resume.specs.declared.course.Course.{Course}
 use Rattle.keel_resume.specs.declared.stage.Stage.{Stage}
 use Rattle.keel_resume.specs.declared.stage.Stage.TheVariants as stage
-use Rattle.keel_resume.specs.Drafts.{Draft}
+use Rattle.keel_draft.specs.Drafts.{Draft}
 use Rattle.keel_resume.specs.Plans.{Act, MakeTable, AddPiece, SyncTable, MakeLog, SyncLogName, Rolls, Job, Progress, change_of, edit_of, handed, left_of, moved, nothing_made, plan_of}
 use Rattle.keel_resume.specs.Jobs.{IsMove, IsLast, UsesNew, manifest_behind}
 use Rattle.keel_resume.specs.Courses.{HasRoll, IsCalled, IsHanded, IsOnCourse, IsStage, RollAt, RollReady, StageBehind, act_at, act_in, job_in, later_at, state_in}

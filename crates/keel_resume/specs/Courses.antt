@@ -15,7 +15,7 @@ use Rattle.keel_manifest.specs.State.{ManifestState}
 use Rattle.keel_resume.specs.declared.course.Course.{Course}
 use Rattle.keel_resume.specs.declared.stage.Stage.{Stage}
 use Rattle.keel_resume.specs.declared.stage.Stage.TheVariants as stage
-use Rattle.keel_resume.specs.Drafts.{Draft, pieces_in}
+use Rattle.keel_draft.specs.Drafts.{Draft, pieces_in}
 use Rattle.keel_resume.specs.Plans.{Act, MakeTable, AddPiece, SyncTable, MakeLog, SyncLogName, Rolls, Job, call_of, edit_of, handed, left_of, log_acts, next_behind, roll_acts, table_acts, with_progress}
 use Rattle.keel_resume.specs.Jobs.{JobState, manifest_behind, manifest_tried, tables_of}
 

@@ -3,7 +3,6 @@ use Rattle.std.specs.Prelude.{◌≡◌, ℕ, ◌+◌, ◌^◌, ◌<◌, ◌≤�
 use Rattle.keel_base.specs.declared.failure.Call.{Call}
 use Rattle.keel_base.specs.declared.failure.Failure.{Failure}
 use Rattle.keel_base.specs.declared.failure.Fault.{Fault}
-use Rattle.keel_base.specs.declared.limits.TheConstants.{LAST_NUMBER}
 use Rattle.keel_base.specs.declared.row.Row.{Row}
 use Rattle.keel_disk.specs.declared.error.DiskError.TheVariants as error
 use Rattle.keel_disk.specs.Seen.{Seen, Calls, IsQuiet}
@@ -13,9 +12,7 @@ use Rattle.keel_manifest.specs.declared.jobs.JobMove.TheVariants.{Moved, Done, F
 use Rattle.keel_manifest.specs.declared.manifest.Progress.TheVariants.{Firm}
 use Rattle.keel_manifest.specs.Rolls as rolls
 use Rattle.keel_manifest.specs.State.{ManifestState}
-use Rattle.keel_mem.specs.Totals.{least_seq, greatest_seq}
-use Rattle.keel_table.specs.Spelling.{IsTableOf}
-use Rattle.keel_resume.specs.Drafts.{Draft, AreNewestOf, added_of, bytes_in, numbered, rows_in, with_new}
+use Rattle.keel_draft.specs.Drafts.{Draft, IsTableFor, added_of, numbered, with_new}
 use Rattle.keel_resume.specs.Plans.{Act, Rolls, Job, call_of, change_of, draws, failure_of, left_of, manifest_of, moved, next_behind, roll_of, tried}
 
 -- a job, and whether it makes no further call
@@ -24,15 +21,6 @@ pub record JobState : Type 0 where
   pub over : Bool
 
 -- ---- the tables
-
--- the draft is the table of a memtable's rows
-pub record IsTableFor (mem_rows : List Row) (draft : Draft) : Type 0 where
-  pub first : draft.first ≡ least_seq mem_rows
-  pub last : draft.last ≡ greatest_seq mem_rows
-  pub newest : AreNewestOf mem_rows (rows_in draft)
-  pub table : IsTableOf draft.first draft.last (rows_in draft) (bytes_in draft)
-  pub blocks : table.blocks ≡ draft.blocks
-  pub size : length (bytes_in draft) ≤ LAST_NUMBER
 
 abbrev pub with_draft : Draft → JobState → JobState
 with_draft draft s = record s { job = record s.job { drafts = s.job.drafts ++ draft ∷ [] } }

@@ -18,7 +18,7 @@ use Rattle.keel_manifest.specs.declared.roll.RollCall.{RollCall}
 use Rattle.keel_manifest.specs.declared.roll.RollCall.TheVariants.{MakeManifest, AppendEdit, SyncManifest, MakeTemporary, AppendName, SyncTemporary, Rename, SyncDirectory}
 use Rattle.keel_manifest.specs.Rolls.{RollState}
 use Rattle.keel_manifest.specs.Rolls as rolls
-use Rattle.keel_resume.specs.Drafts.{Draft, added_of, numbered, pieces_in, with_new}
+use Rattle.keel_draft.specs.Drafts.{Draft, added_of, numbered, pieces_in, with_new}
 
 -- what a call is for
 pub data Act : Type 0 where

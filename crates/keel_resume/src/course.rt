@@ -15,11 +15,11 @@ ghost use Rattle.keel_manifest.specs.State.{ManifestState};
 ghost use Rattle.keel_manifest.specs.declared.roll.RollCall.{RollCall as ARollCall};
 ghost use Rattle.keel_edit.specs.Spelling.{spelling};
 
-use crate::draft::TableDraft;
 use crate::stage::Stage;
 use crate::tables::with_tables;
 use keel_base::{Call, FileName, OutOfMemory, Sequence};
 use keel_disk::{Disk, DiskError};
+use keel_draft::TableDraft;
 use keel_edit::{AddedList, Edit, RemovedList, encode};
 use keel_manifest::{Manifest, NextFile, Roll, RollCall, Rolled};
 use std::alloc::Global;

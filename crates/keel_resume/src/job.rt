@@ -3,10 +3,10 @@ ghost use Rattle.std.specs.Prelude.{◌≡◌, ◌<◌, ◌≤◌, ◌^◌, [], 
 ghost use Rattle.keel_resume.specs.Plans.{job_of, left_of, nothing_made};
 
 use crate::course::Course;
-use crate::draft::TableDraft;
 use crate::stage::Stage;
 use keel_base::{Failure, OutOfMemory, Sequence};
 use keel_disk::{Disk, DiskError};
+use keel_draft::TableDraft;
 use keel_edit::AddedList;
 use keel_manifest::{Ahead, JobMove, Manifest, NextFile};
 use keel_mem::Mem;

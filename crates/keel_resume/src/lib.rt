@@ -18,16 +18,11 @@
 //! - `ahead` tells whether the next call draws a file's number, `over` whether there is one.
 //! - `log`, `manifest` and `into_tables` give what the job made. Behind the last call they take no memory.
 //!
-//! A table stands in memory as the bytes of its file, with the entries that tell its blocks (`TableDraft`): what
-//! contracts see of it, its rows in their blocks, is what these bytes give.
-//!
-//! It stands on memtables (`keel_mem`), tables (`keel_table`), edits (`keel_edit`), the roll (`keel_manifest`) and the
-//! device (`keel_disk`).
+//! It stands on tables in memory (`keel_draft`), edits (`keel_edit`), the roll (`keel_manifest`) and the device
+//! (`keel_disk`).
 #![tactic(auto)]
 
 mod course;
-mod draft;
-mod gathering;
 mod job;
 mod stage;
 mod tables;

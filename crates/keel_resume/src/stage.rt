@@ -1,6 +1,6 @@
 // Where a job stands.
 ghost use Rattle.std.specs.Prelude.{◌≡◌, List};
-ghost use Rattle.keel_resume.specs.Drafts.{Draft};
+ghost use Rattle.keel_draft.specs.Drafts.{Draft};
 ghost use Rattle.keel_resume.specs.Plans.{draws, reason_of, Rolls};
 ghost use Rattle.keel_resume.specs.Courses.{act_at};
 

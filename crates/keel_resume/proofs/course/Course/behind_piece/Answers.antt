@@ -1,5 +1,5 @@
 use Rattle.std.proofs.Common.{◌≡◌, List, arith, ap, length, get_or, ◌∙◌}
-use Rattle.keel_resume.specs.Drafts.{Draft}
+use Rattle.keel_draft.specs.Drafts.{Draft}
 use Rattle.keel_resume.proofs.Stages.{pieces_there, behind_piece, behind_pieces}
 use Rattle.keel_resume.proofs.course.Course.behind_piece.Goals as goal
 

@@ -3,7 +3,7 @@ use Rattle.std.proofs.Common.{◌≡◌, ℕ, zero, suc, ◌+◌, ◌<◌, ◌�
 use Rattle.keel_base.specs.declared.row.Row.{Row}
 use Rattle.keel_table.specs.declared.index.BlockEntry.{BlockEntry}
 use Rattle.keel_table.specs.Spelling.{rows_bytes, block_bytes, blocks_bytes, checked, entries_from, footer_bytes, footer_of, index_bytes}
-use Rattle.keel_resume.specs.Drafts.{Draft, bytes_in, pieces_in}
+use Rattle.keel_draft.specs.Drafts.{Draft, bytes_in, pieces_in}
 use Rattle.keel_table.proofs.Lengths.{length-checked}
 
 length-map : {A B : Type 0} (f : A → B) (xs : List A) → length (map f xs) ≡ length xs

@@ -9,6 +9,7 @@ use Rattle.keel_table.specs.Spelling.{Ascend, IsTableOf, block_bytes, checked, e
 use Rattle.keel_table.specs.Opening.{opened_with, row_of}
 use Rattle.keel_directory.specs.Sound.{first_key}
 use Rattle.keel_directory.specs.TableFiles.{TableFile}
+use Rattle.keel_mem.specs.Totals.{least_seq, greatest_seq}
 
 -- ---- rows
 
@@ -60,6 +61,15 @@ abbrev pub AreDraftsOf : ℕ → List (List (List Op)) → List Draft → Type 0
 AreDraftsOf seq [] [] = Unit {0}
 AreDraftsOf seq (batches ∷ segments) (draft ∷ drafts) = IsDraftOf seq batches draft × AreDraftsOf (seq + count_ops batches) segments drafts
 AreDraftsOf seq _ _ = ⊥
+
+-- The draft is the table of a memtable's rows
+pub record IsTableFor (mem_rows : List Row) (draft : Draft) : Type 0 where
+  pub first : draft.first ≡ least_seq mem_rows
+  pub last : draft.last ≡ greatest_seq mem_rows
+  pub newest : AreNewestOf mem_rows (rows_in draft)
+  pub table : IsTableOf draft.first draft.last (rows_in draft) (bytes_in draft)
+  pub blocks : table.blocks ≡ draft.blocks
+  pub size : length (bytes_in draft) ≤ LAST_NUMBER
 
 -- ---- its entry and its file
 

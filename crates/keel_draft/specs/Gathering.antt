@@ -4,8 +4,8 @@ use Rattle.keel_base.specs.declared.row.Row.{Row}
 use Rattle.keel_directory.specs.Sound.{first_key}
 use Rattle.keel_mem.specs.Totals.{least_seq, greatest_seq}
 use Rattle.keel_table.specs.Building.{IsBuilding}
-use Rattle.keel_resume.specs.declared.gathering.Gathering.{Gathering}
-use Rattle.keel_resume.specs.Drafts.{AreNewestOf}
+use Rattle.keel_draft.specs.declared.gathering.Gathering.{Gathering}
+use Rattle.keel_draft.specs.Drafts.{AreNewestOf}
 
 -- these rows were added: their closed blocks are among the bytes, the builder has the others
 pub record HasGathered (first last : ℕ) (rows : List Row) (g : Gathering) : Type 0 where

@@ -1,8 +1,8 @@
 use Rattle.std.proofs.Common.{ap, subst, ◌∙◌}
 use Rattle.keel_table.specs.declared.index.Footer.{Footer}
-use Rattle.keel_resume.specs.TablesInMemory.{HoldsDraft}
-use Rattle.keel_resume.proofs.Pieces.{piece_of_entry, piece_of_end}
-use Rattle.keel_resume.proofs.draft.TableDraft.piece.Goals as goal
+use Rattle.keel_draft.specs.TablesInMemory.{HoldsDraft}
+use Rattle.keel_draft.proofs.Pieces.{piece_of_entry, piece_of_end}
+use Rattle.keel_draft.proofs.draft.TableDraft.piece.Goals as goal
 
 pub returns-in-Some : goal.returns-in-Some
 returns-in-Some c =

@@ -5,7 +5,7 @@ ghost use Rattle.keel_base.specs.Keys.{key_lt};
 ghost use Rattle.keel_base.specs.Rows.{IsRow};
 ghost use Rattle.keel_mem.specs.RowShown.{row_shown};
 ghost use Rattle.keel_table.specs.Building.{key_before};
-ghost use Rattle.keel_resume.specs.Gathering.{GathersNewest, HasGathered};
+ghost use Rattle.keel_draft.specs.Gathering.{GathersNewest, HasGathered};
 
 use keel_base::{Bytes, OutOfMemory, Row};
 use keel_mem::{Mem, MemRow};

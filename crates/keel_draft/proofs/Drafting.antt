@@ -15,9 +15,8 @@ use Rattle.keel_table.specs.Opening.{Damage, Opened, opened, opened_with}
 use Rattle.keel_table.specs.Spelling.{Ascend, IsTableOf, entries_from, footer_of, last_key}
 use Rattle.keel_table.proofs.Opens.{tables_open_law}
 use Rattle.keel_table.proofs.Sizes.{tables_are_small}
-use Rattle.keel_resume.specs.Drafts.{AreNewestOf, Draft}
-use Rattle.keel_resume.specs.Jobs.{IsTableFor}
-use Rattle.keel_resume.specs.TablesInMemory.{HoldsDraft, blocks_at, draft_in}
+use Rattle.keel_draft.specs.Drafts.{AreNewestOf, Draft, IsTableFor}
+use Rattle.keel_draft.specs.TablesInMemory.{HoldsDraft, blocks_at, draft_in}
 
 blocks_whole : (bytes before : List ℕ) (entries : List BlockEntry) (blocks : List (List Row)) → AreWhole bytes before entries blocks → blocks_at bytes before entries ≡ blocks
 blocks_whole bytes before [] [] h = refl

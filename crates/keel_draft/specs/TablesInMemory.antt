@@ -7,7 +7,7 @@ use Rattle.keel_table.specs.declared.index.BlockEntry.{BlockEntry}
 use Rattle.keel_table.specs.declared.index.Footer.{Footer}
 use Rattle.keel_table.specs.Opening.{block_found}
 use Rattle.keel_table.specs.Spelling.{entries_from, footer_of, last_key}
-use Rattle.keel_resume.specs.Drafts.{Draft, bytes_in, rows_in}
+use Rattle.keel_draft.specs.Drafts.{Draft, bytes_in, rows_in}
 
 -- the blocks of entries, the first of which stands behind a key
 abbrev pub blocks_at : List ℕ → List ℕ → List BlockEntry → List (List Row)

@@ -3,8 +3,8 @@ use Rattle.keel_mem.specs.Totals.{least_seq, greatest_seq}
 use Rattle.keel_table.specs.Building.{piece_bytes, pieces_bytes}
 use Rattle.keel_table.specs.Opening.{opened, opened_with}
 use Rattle.keel_table.specs.Spelling.{IsTableOf}
-use Rattle.keel_resume.proofs.Drafting.{drafted, is_table_for}
-use Rattle.keel_resume.proofs.draft.TableDraft.of.Goals as goal
+use Rattle.keel_draft.proofs.Drafting.{drafted, is_table_for}
+use Rattle.keel_draft.proofs.draft.TableDraft.of.Goals as goal
 
 pub invariant_of-result : goal.invariant_of-result
 invariant_of-result c =

@@ -1,8 +1,7 @@
 // A table in memory, until it is in its file.
 ghost use Rattle.std.specs.Prelude.{◌≡◌, ◌+◌, ◌<◌, ◌++◌, [], take, drop, length, get_or, IfOk, OnOk};
 ghost use Rattle.keel_table.specs.Building.{piece_bytes};
-ghost use Rattle.keel_resume.specs.Drafts.{added_of, pieces_in};
-ghost use Rattle.keel_resume.specs.Jobs.{IsTableFor};
+ghost use Rattle.keel_draft.specs.Drafts.{IsTableFor, added_of, pieces_in};
 
 use crate::gathering::{Gathering, gather};
 use keel_base::{Bytes, OutOfMemory};
@@ -57,8 +56,8 @@ fn block_at(bytes: &[u8], offset: u64, size: u32) -> &[u8]
 }
 
 impl Model for TableDraft {
-    ghost use Rattle.keel_resume.specs.Drafts.{Draft};
-    ghost use Rattle.keel_resume.specs.TablesInMemory.{draft_in, HoldsDraft};
+    ghost use Rattle.keel_draft.specs.Drafts.{Draft};
+    ghost use Rattle.keel_draft.specs.TablesInMemory.{draft_in, HoldsDraft};
 
     ghost Value = { Draft };
 
@@ -113,6 +112,13 @@ impl TableDraft {
             Some(entry) => block_at(bytes, entry.offset, entry.size),
             None => behind(bytes, self.footer.index),
         }
+    }
+
+    /// The greatest sequence number of its memtable.
+    pub fn last(&self) -> u64
+        ensures { result ≡ self.now.last }
+    {
+        self.footer.last
     }
 
     /// Its entry in an edit, where its file has that number.

@@ -19,8 +19,8 @@ use Rattle.keel_table.specs.Building.{key_before}
 use Rattle.keel_table.specs.Opening.{row_of}
 use Rattle.keel_table.specs.Spelling.{last_key}
 use Rattle.keel_directory.specs.Sound.{first_key}
-use Rattle.keel_resume.specs.declared.gathering.Gathering.{Gathering}
-use Rattle.keel_resume.specs.Gathering.{HasGathered, GathersNewest}
+use Rattle.keel_draft.specs.declared.gathering.Gathering.{Gathering}
+use Rattle.keel_draft.specs.Gathering.{HasGathered, GathersNewest}
 
 -- the first of two that is there
 abbrev pub or_else : Option Row → Option Row → Option Row

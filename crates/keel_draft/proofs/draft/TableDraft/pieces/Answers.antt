@@ -1,7 +1,7 @@
 use Rattle.std.proofs.Common.{arith, ap, length, subst}
-use Rattle.keel_resume.specs.TablesInMemory.{HoldsDraft}
-use Rattle.keel_resume.proofs.Pieces.{count_pieces}
-use Rattle.keel_resume.proofs.draft.TableDraft.pieces.Goals as goal
+use Rattle.keel_draft.specs.TablesInMemory.{HoldsDraft}
+use Rattle.keel_draft.proofs.Pieces.{count_pieces}
+use Rattle.keel_draft.proofs.draft.TableDraft.pieces.Goals as goal
 
 pub returns : goal.returns
 returns c =

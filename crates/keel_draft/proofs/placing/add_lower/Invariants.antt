@@ -1,6 +1,6 @@
 use Rattle.std.proofs.Common.{◌≡◌, ◌==◌, not, ◌++◌, drop, filter}
 use Rattle.keel_edit.specs.declared.edit.Added.{Added}
-use Rattle.keel_resume.proofs.tables.add_lower.Given as goal
+use Rattle.keel_draft.proofs.placing.add_lower.Given as goal
 
 -- what was added with what is still to be added is all
 abbrev pub invariant-loop-table : goal.invariant-loop-table

@@ -5,9 +5,9 @@ use Rattle.keel_base.specs.declared.row.Row.{Row}
 use Rattle.keel_base.specs.Rows.{IsRow}
 use Rattle.keel_mem.specs.RowShown.{row_shown}
 use Rattle.keel_mem.specs.Totals.{greatest_seq}
-use Rattle.keel_resume.specs.Gathering.{HasGathered}
-use Rattle.keel_resume.proofs.Newest.{IsGathering, begins, adds, skips}
-use Rattle.keel_resume.proofs.gathering.gather.Goals as goal
+use Rattle.keel_draft.specs.Gathering.{HasGathered}
+use Rattle.keel_draft.proofs.Newest.{IsGathering, begins, adds, skips}
+use Rattle.keel_draft.proofs.gathering.gather.Goals as goal
 
 pub rows-init : goal.rows-init
 rows-init c =

@@ -1,0 +1,3 @@
+pub mod Drafting
+pub mod Newest
+pub mod Pieces

@@ -1,0 +1,3 @@
+pub mod Drafts
+pub mod Gathering
+pub mod TablesInMemory
