@@ -6,7 +6,7 @@ use Rattle.keel_machine.specs.BootLength.{calls_of, Moves, BootEnds}
 use Rattle.keel_machine.specs.Resuming.{AreDrafts, boot_done, first_done, one_more, resume_ready, started_or}
 use Rattle.keel_machine.proofs.FirstTests.{none_some}
 use Rattle.keel_machine.specs.States.{State, Resumption}
-use Rattle.keel_resume.specs.Drafts.{Draft, pieces_in}
+use Rattle.keel_draft.specs.Drafts.{Draft, pieces_in}
 use Rattle.keel_resume.proofs.Steps.{handed_made}
 use Rattle.keel_resume.specs.Plans.{Act, AddPiece, SyncTable, left_of, plan_of, table_acts, log_acts, roll_acts}
 use Rattle.keel_table.specs.Spelling.{block_bytes}

@@ -1,4 +1,4 @@
--- Every failure of a log stops writes, whatever failed before it.
+-- Every failure of a log or of a manifest stops writes, whatever failed before it.
 use Rattle.std.proofs.Common.{◌≡◌, ◌≤◌, Bool, true, false, List, [], ◌∷◌, ◌++◌, Option, Some, None, refl, sym, ap, subst, arith}
 use Rattle.std.specs.Prelude.{nat_lt, if◌then◌else◌, is_some}
 use Rattle.std.proofs.lemmas.Bool.{ltb-false, le-leb}
@@ -6,7 +6,8 @@ use Rattle.keel_base.specs.declared.failure.Failure.{Failure}
 use Rattle.keel_base.specs.declared.failure.Fault.{Fault}
 use Rattle.keel_base.specs.declared.failure.Fault.TheVariants.{Plain, NoSpace, SpaceLimit, Fenced, Retryable, DataLoss, Corrupt}
 use Rattle.keel_handler.specs.Failures.{severity, first_worst, standing_of, where_severe}
-use Rattle.keel_machine.specs.Laws.{LogFailureStops}
+use Rattle.keel_base.specs.declared.failure.Reason.TheVariants.{Manifest}
+use Rattle.keel_machine.specs.Laws.{LogFailureStops, ManifestFailureStops}
 use Rattle.keel_machine.specs.WritingAfter.{failure_of}
 
 -- the error that stands, and that it stops writes
@@ -30,6 +31,26 @@ log_severe false Fenced = omega arith
 log_severe false Retryable = omega arith
 log_severe false DataLoss = omega arith
 log_severe false Corrupt = omega arith
+
+-- a failure of a manifest
+abbrev manifest_failure : Fault → Failure
+manifest_failure fault = record { reason = Manifest; fault = fault }
+
+manifest_severe : (paranoid : Bool) (fault : Fault) → 2 ≤ severity paranoid (manifest_failure fault)
+manifest_severe true Plain = omega arith
+manifest_severe true NoSpace = omega arith
+manifest_severe true SpaceLimit = omega arith
+manifest_severe true Fenced = omega arith
+manifest_severe true Retryable = omega arith
+manifest_severe true DataLoss = omega arith
+manifest_severe true Corrupt = omega arith
+manifest_severe false Plain = omega arith
+manifest_severe false NoSpace = omega arith
+manifest_severe false SpaceLimit = omega arith
+manifest_severe false Fenced = omega arith
+manifest_severe false Retryable = omega arith
+manifest_severe false DataLoss = omega arith
+manifest_severe false Corrupt = omega arith
 
 alone : (paranoid : Bool) (failure : Failure) → 2 ≤ severity paranoid failure → IsSevere paranoid (first_worst paranoid failure None)
 alone paranoid failure severe =
@@ -67,3 +88,8 @@ pub log_failure_stops : LogFailureStops
 log_failure_stops s fault =
     stopping s.options.paranoid (standing_of s.options.paranoid (s.failing.failures ++ failure_of fault ∷ []))
     (behind s.options.paranoid s.failing.failures (failure_of fault) (log_severe s.options.paranoid fault))
+
+pub manifest_failure_stops : ManifestFailureStops
+manifest_failure_stops s fault =
+    stopping s.options.paranoid (standing_of s.options.paranoid (s.failing.failures ++ manifest_failure fault ∷ []))
+    (behind s.options.paranoid s.failing.failures (manifest_failure fault) (manifest_severe s.options.paranoid fault))

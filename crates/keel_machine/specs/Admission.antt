@@ -18,7 +18,7 @@ use Rattle.keel_machine.specs.declared.answers.Outcome.{Outcome}
 use Rattle.keel_machine.specs.declared.answers.Outcome.TheVariants as outcome
 use Rattle.keel_machine.specs.States.{State, Group, is_booting, point_of}
 use Rattle.keel_machine.specs.Tests.{first_some, when}
-use Rattle.keel_resume.specs.Drafts.{count_ops}
+use Rattle.keel_draft.specs.Drafts.{count_ops}
 
 -- the error that stands: of the failures since the opening the first of the greatest severity
 abbrev pub standing : State → Option Failure

@@ -4,7 +4,7 @@ use Rattle.keel_base.specs.declared.failure.Call.{Call}
 use Rattle.keel_machine.specs.declared.steps.ResumeStep.TheVariants.{Moved, Cleared}
 use Rattle.keel_machine.specs.States.{State}
 use Rattle.keel_machine.specs.Turns.{Turn, Resuming}
-use Rattle.keel_resume.specs.Drafts.{Draft}
+use Rattle.keel_draft.specs.Drafts.{Draft}
 
 -- the calls of a boot that makes these tables: three of each and one for each of its blocks, then ten for a log and a roll
 abbrev pub calls_of : List Draft → ℕ

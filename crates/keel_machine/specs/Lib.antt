@@ -5,6 +5,8 @@ pub mod Admission
 pub mod Writing
 pub mod WritingAfter
 pub mod Resuming
+pub mod Flushing
+pub mod Telling
 pub mod Opening
 pub mod Crash
 pub mod Reads

@@ -10,6 +10,7 @@ use Rattle.keel_directory.specs.declared.logs.Replayed.{Replayed}
 use Rattle.keel_disk.specs.Plain.{image_read}
 use Rattle.keel_disk.specs.Told.{Told, TellsListing}
 use Rattle.keel_disk.specs.Seen.{IsQuiet, Seen}
+use Rattle.keel_manifest.specs.State.{named_at_opening}
 use Rattle.keel_open.specs.declared.refusal.OpenRefusal.{OpenRefusal}
 use Rattle.keel_open.specs.declared.store.StoreFound.{StoreFound}
 use Rattle.keel_open.specs.Listed.{IsDirectory}
@@ -17,7 +18,7 @@ use Rattle.keel_open.specs.NextFiles.{IsNextFile}
 use Rattle.keel_open.specs.Refusals.{fault_in}
 use Rattle.keel_open.specs.Stores.{StoreTells}
 use Rattle.keel_version.specs.Tables.{AreLevels, IsWithin}
-use Rattle.keel_machine.specs.States.{State, Story, Footing, Known, Mode, Booting, Shut, Leaving, Crashed, Left, Segment, entries_in, new_story, no_batches, point_of}
+use Rattle.keel_machine.specs.States.{State, Story, Footing, Known, Mode, Booting, Shut, Leaving, Crashed, Left, Segment, Slot, entries_in, new_story, no_batches, point_of}
 
 -- What an opening finds: what the directory holds as a store, the point that it is read as, and the files of its tables.
 pub record Found : Type 0 where
@@ -93,6 +94,10 @@ abbrev pub replayed_segments : List (List Op) → List ℕ → List Segment
 replayed_segments [] logs = []
 replayed_segments (ops ∷ batches) logs = record { batches = ops ∷ batches; logs = logs } ∷ []
 
+-- no job of a slot was started yet
+abbrev pub idle_slot : {J : Type 0} → Slot J
+idle_slot = record { number = 0; running = None }
+
 -- a store is open whose boot hasn't begun
 abbrev pub opened : Options → Found → State → State
 opened options found s = record {
@@ -105,8 +110,12 @@ opened options found s = record {
   levels = found.levels;
   writing = record { waiting = []; outcomes = []; last_ticket = 0 };
   failing = record { failures = [] };
-  jobs = record { write = record { number = 0; running = None }; resume = record { number = 0; running = None } };
-  numbers = record { next_file = found.store.next_file; manifest = found.store.manifest; in_tables = found.store.version.last_seq };
+  jobs = record { write = idle_slot; flush = idle_slot; resume = idle_slot };
+  numbers = record {
+    next_file = found.store.next_file;
+    manifest = named_at_opening found.store.manifest found.store.edits;
+    in_tables = found.store.version.last_seq;
+  };
 }
 
 abbrev pub open_after : State → Options → Result Found OpenRefusal → State

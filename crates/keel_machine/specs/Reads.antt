@@ -17,7 +17,7 @@ use Rattle.keel_disk.specs.Plain.{image_read}
 use Rattle.keel_disk.specs.Told.{Told}
 use Rattle.keel_disk.specs.Seen.{IsQuiet, Seen}
 use Rattle.keel_machine.specs.States.{State, Footing, Known, Unknown, Segment, point_of}
-use Rattle.keel_resume.specs.Drafts.{batch_rows, count_ops}
+use Rattle.keel_draft.specs.Drafts.{batch_rows, count_ops}
 use Rattle.keel_table.specs.declared.fault.TableFault.{TableFault}
 use Rattle.keel_table.specs.declared.fault.TableFault.TheVariants as fault
 

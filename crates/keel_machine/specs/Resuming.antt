@@ -15,7 +15,9 @@ use Rattle.keel_machine.specs.Outside.{as_answer}
 use Rattle.keel_machine.specs.States.{State, Story, Open, Resumption, Segment, entries_in, is_booting, new_log}
 use Rattle.keel_machine.specs.Tests.{first_some, when, differing}
 use Rattle.keel_machine.specs.WritingAfter.{noted}
-use Rattle.keel_resume.specs.Drafts.{Draft, AreDraftsOf, file_of, numbered, with_new}
+use Rattle.keel_draft.specs.Drafts.{Draft, AreDraftsOf, file_of, numbered, with_new}
+use Rattle.keel_manifest.specs.State.{ManifestState}
+use Rattle.keel_resume.specs.Jobs.{manifest_behind, manifest_tried}
 use Rattle.keel_resume.specs.Plans.{Job, Act, left_of, job_of, draws, next_behind, change_of, call_of, failure_of, moved}
 
 -- ---- the boot
@@ -97,8 +99,18 @@ resume_rest s drafts held = first_some (
 
 -- ---- parts of the next state
 
-abbrev pub with_next_file : ℕ → State → State
-with_next_file next s = record s { numbers = record s.numbers { next_file = next } }
+-- the number of the next file, and the manifest in use
+abbrev pub with_numbers : ℕ → ManifestState → State → State
+with_numbers next_file manifest s = record s { numbers = record s.numbers { next_file = next_file; manifest = manifest } }
+
+-- behind a call that was answered Ok, and behind one that failed
+abbrev pub numbered_behind : Act → Job → State → State
+numbered_behind act job s =
+    with_numbers (next_behind act s.numbers.next_file) (manifest_behind act job s.numbers.next_file s.numbers.manifest) s
+
+abbrev pub numbered_tried : Act → Job → State → State
+numbered_tried act job s =
+    with_numbers (next_behind act s.numbers.next_file) (manifest_tried act job s.numbers.next_file s.numbers.manifest) s
 
 -- one call more was made
 abbrev pub one_more : Act → ℕ → Resumption → Resumption
@@ -122,18 +134,18 @@ cleared job s = record s {
   levels = with_new (λ (table : TableFile). table.entry.level) s.levels (made_in job);
   failing = record { failures = [] };
   jobs = record s.jobs { resume = record s.jobs.resume { running = None } };
-  numbers = record s.numbers { manifest = job.progress.manifest; in_tables = last_seq s };
+  numbers = record s.numbers { in_tables = last_seq s };
 }
 
 -- the state behind a call of the boot that was answered Ok, with the calls left behind it
 abbrev pub act_done : Act → Resumption → List Act → State → State
-act_done act running [] s = cleared (moved s.numbers.next_file act running.job) (with_next_file (next_behind act s.numbers.next_file) s)
+act_done act running [] s = cleared (moved s.numbers.next_file act running.job) (numbered_behind act running.job s)
 act_done act running (next ∷ later) s =
-    with_resumption (Some (one_more act s.numbers.next_file running)) (with_next_file (next_behind act s.numbers.next_file) s)
+    with_resumption (Some (one_more act s.numbers.next_file running)) (numbered_behind act running.job s)
 
 -- behind a call that failed the boot is over; a number is used up
-abbrev pub act_failed : Act → Failure → State → State
-act_failed act failure s = noted failure (with_resumption None (with_next_file (next_behind act s.numbers.next_file) s))
+abbrev pub act_failed : Act → Job → Failure → State → State
+act_failed act job failure s = noted failure (with_resumption None (numbered_tried act job s))
 
 abbrev pub first_done : Resumption → List Act → State → State
 first_done running [] s = s
@@ -143,13 +155,13 @@ abbrev pub boot_done : Option Resumption → State → State
 boot_done None s = s
 boot_done (Some running) s = first_done running (left_of running.job) s
 
-abbrev pub first_failed : List Act → Failure → State → State
-first_failed [] failure s = s
-first_failed (act ∷ later) failure s = act_failed act failure s
+abbrev pub first_failed : Job → List Act → Failure → State → State
+first_failed job [] failure s = s
+first_failed job (act ∷ later) failure s = act_failed act job failure s
 
 abbrev pub boot_failed : Option Resumption → Failure → State → State
 boot_failed None failure s = s
-boot_failed (Some running) failure s = first_failed (left_of running.job) failure s
+boot_failed (Some running) failure s = first_failed running.job (left_of running.job) failure s
 
 abbrev pub call_done : List Draft → State → State
 call_done drafts s = boot_done (resume_ready drafts s).jobs.resume.running (resume_ready drafts s)

@@ -8,8 +8,10 @@ use Rattle.keel_base.specs.declared.options.Options.{Options}
 use Rattle.keel_directory.specs.TableFiles.{TableFile}
 use Rattle.keel_disk.specs.Seen.{Seen}
 use Rattle.keel_edit.specs.declared.edit.Added.{Added}
+use Rattle.keel_flush.specs.Plans.{Job as FlushJob}
 use Rattle.keel_group.specs.Queue.{Ticketed}
 use Rattle.keel_machine.specs.declared.answers.Outcome.{Outcome}
+use Rattle.keel_manifest.specs.State.{ManifestState}
 use Rattle.keel_resume.specs.Plans.{Job}
 
 -- Whether the device is known to bear out the story: it tells its state, was at rest when the run began, and no crash
@@ -162,12 +164,13 @@ pub record Resumption : Type 0 where
 
 pub record Jobs : Type 0 where
   pub write : Slot Group
+  pub flush : Slot FlushJob
   pub resume : Slot Resumption
 
--- the next file, the manifest in use where there is one, and the last op that is in a table
+-- the next file, the manifest in use with what a crash may leave of manifests, and the last op that is in a table
 pub record Numbers : Type 0 where
   pub next_file : ℕ
-  pub manifest : Option ℕ
+  pub manifest : ManifestState
   pub in_tables : ℕ
 
 pub record State : Type 0 where

@@ -11,9 +11,18 @@ use Rattle.keel_machine.specs.Admission.{queued, last_seq, outcome_of, refusal}
 use Rattle.keel_machine.specs.declared.answers.Admit.TheVariants as admit
 use Rattle.keel_machine.specs.declared.steps.ResumeStep.{ResumeStep}
 use Rattle.keel_machine.specs.declared.steps.ResumeStep.TheVariants as resume
+use Rattle.keel_machine.specs.Opening.{idle_slot}
+use Rattle.keel_manifest.specs.State.{named_at_opening}
 use Rattle.keel_machine.specs.Resuming.{resume_ready, resume_rest, boot_done}
 use Rattle.keel_machine.specs.States.{State, Booting, Nothing, Group, Resumption, Act, left_of, new_story, no_batches}
+use Rattle.keel_base.specs.declared.row.Kind.TheVariants as kinds
 use Rattle.keel_base.specs.Options.{standard}
+use Rattle.keel_draft.specs.Drafts.{Draft}
+use Rattle.keel_flush.specs.Plans.{Act as FlushAct, Job as FlushJob}
+use Rattle.keel_flush.specs.Plans as flushes
+use Rattle.keel_machine.specs.declared.steps.JobStep.{JobStep}
+use Rattle.keel_machine.specs.declared.steps.JobStep.TheVariants as job_step
+use Rattle.keel_machine.specs.Flushing.{flush_done, flush_ready, flush_rest}
 use Rattle.keel_base.specs.Points.{origin}
 use Rattle.keel_resume.specs.Plans.{Act as BootAct}
 use Rattle.keel_resume.specs.Plans as plans
@@ -89,8 +98,8 @@ new_store s = record {
   levels = [];
   writing = record { waiting = []; outcomes = []; last_ticket = 0 };
   failing = record { failures = [] };
-  jobs = record { write = record { number = 0; running = None }; resume = record { number = 0; running = None } };
-  numbers = record { next_file = 1; manifest = None; in_tables = 0 };
+  jobs = record { write = idle_slot; flush = idle_slot; resume = idle_slot };
+  numbers = record { next_file = 1; manifest = named_at_opening None 0; in_tables = 0 };
 }
 
 -- The boot of an empty directory makes a log, a manifest and the file that CURRENT becomes; until its last call no batch is taken.
@@ -147,3 +156,47 @@ FullSegment =
     let s2 : State = behind_steps 4 (queued plain_put s1) in
     (answers 5 (queued plain_put s1) ≡ Moved 2 call.Sync ∷ Moved 2 call.Create ∷ Moved 2 call.SyncDir ∷ Done 2 2 1 ∷ Idle ∷ [])
     × (refusal s2 plain_put ≡ Some (admit.Full 18 1))
+
+-- ---- a flush
+
+abbrev pub flush_answer : State → Draft → FlushJob → List FlushAct → JobStep
+flush_answer s draft job [] = job_step.Idle
+flush_answer s draft job (act ∷ []) = job_step.Done (flush_ready draft s).jobs.flush.number
+flush_answer s draft job (act ∷ next ∷ later) = job_step.Moved (flush_ready draft s).jobs.flush.number (flushes.call_of act)
+
+abbrev pub flush_answer_of : State → Draft → Option FlushJob → JobStep
+flush_answer_of s draft None = job_step.Idle
+flush_answer_of s draft (Some job) = flush_answer s draft job (flushes.left_of job)
+
+abbrev pub flush_out : State → Draft → Option JobStep → JobStep × State
+flush_out s draft (Some rest) = (rest, s)
+flush_out s draft None = (flush_answer_of s draft (flush_ready draft s).jobs.flush.running, flush_done (flush_ready draft s).jobs.flush.running (flush_ready draft s))
+
+-- a flush step whose call is answered Ok, with the state behind it
+abbrev pub flush_played : Draft → State → JobStep × State
+flush_played draft s = flush_out s draft (flush_rest s draft None)
+
+abbrev pub flush_answers : ℕ → Draft → State → List JobStep
+flush_answers zero draft s = []
+flush_answers (suc n) draft s = (flush_played draft s).0 ∷ flush_answers n draft (flush_played draft s).1
+
+abbrev pub behind_flush_steps : ℕ → Draft → State → State
+behind_flush_steps zero draft s = s
+behind_flush_steps (suc n) draft s = behind_flush_steps n draft (flush_played draft s).1
+
+-- the table of one put of one byte to one byte
+abbrev pub one_row : Draft
+one_row = record { first = 1; last = 1; blocks = ((record { seq = 1; kind = kinds.Put; key = 97 ∷ []; value = 49 ∷ [] }) ∷ []) ∷ [] }
+
+-- The flush of a segment with one put makes a table, appends its block and its end, and makes bytes and name firm; then comes its
+-- edit. Behind the last call the segment is gone, and one more may follow the active one.
+abbrev pub FirstFlush : Type 0
+FirstFlush =
+    (s : State) → let s0 : State = booted_store s in
+    let s1 : State = behind_steps 1 (queued plain_put (record s0 { options = record standard { write_buffer = 18; max_immutables = 1 } })) in
+    let s2 : State = behind_steps 4 (queued plain_put s1) in
+    (flush_answers 8 one_row s2 ≡
+    job_step.Moved 1 call.Create ∷ job_step.Moved 1 call.Append ∷ job_step.Moved 1 call.Append ∷ job_step.Moved 1 call.Sync ∷ job_step.Moved 1 call.SyncDir
+    ∷ job_step.Moved 1 call.Append ∷ job_step.Done 1 ∷ job_step.Idle ∷ [])
+    × (refusal (behind_flush_steps 6 one_row s2) plain_put ≡ Some (admit.Full 18 1))
+    × (refusal (behind_flush_steps 7 one_row s2) plain_put ≡ None)

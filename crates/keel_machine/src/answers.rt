@@ -67,3 +67,27 @@ pub enum Scanned {
     ReadFault { number: u64, fault: TableFault },
     OutOfMemory,
 }
+
+/// What a level holds.
+#[derive(Clone, Copy, Debug)]
+pub struct LevelView {
+    /// How many tables, up to 4,294,967,295.
+    pub files: u32,
+    /// How many bytes they have together.
+    pub bytes: u128,
+}
+
+/// What the levels and the memory hold.
+#[derive(Clone, Copy, Debug)]
+pub struct LevelsView {
+    pub level0: LevelView,
+    pub level1: LevelView,
+    pub level2: LevelView,
+    pub level3: LevelView,
+    /// The weight of the active segment.
+    pub active: u64,
+    /// How many full segments there are.
+    pub immutables: u32,
+    /// How many batches wait.
+    pub waiting: u32,
+}

@@ -1,7 +1,7 @@
 // Facts of the machine, each as the contract of a function.
 ghost use Rattle.keel_machine.specs.BootLength.{BootEnds};
-ghost use Rattle.keel_machine.specs.Laws.{FailureStops, FullQueueStops, LogFailureStops, OneCallAStep};
-ghost use Rattle.keel_machine.specs.WorkedRows.{FirstBoot, FirstPut, FullQueue, FullSegment, SecondPut};
+ghost use Rattle.keel_machine.specs.Laws.{FailureStops, FullQueueStops, LogFailureStops, ManifestFailureStops, OneCallAFlush, OneCallAStep, StoppedWorkRests, StopsAtTwo};
+ghost use Rattle.keel_machine.specs.WorkedRows.{FirstBoot, FirstFlush, FirstPut, FullQueue, FullSegment, SecondPut};
 
 /// A write step makes one changing call of the device at most.
 pub fn one_call_a_step()
@@ -16,6 +16,26 @@ pub fn failure_stops()
 /// Every failure of a log stops writes, whatever failed before it.
 pub fn log_failure_stops()
     ensures { LogFailureStops }
+{}
+
+/// So does every failure of a manifest.
+pub fn manifest_failure_stops()
+    ensures { ManifestFailureStops }
+{}
+
+/// Writes are stopped exactly where the standing error has severity 2 or more.
+pub fn stops_at_two()
+    ensures { StopsAtTwo }
+{}
+
+/// A flush step makes one changing call of the device at most.
+pub fn one_call_a_flush()
+    ensures { OneCallAFlush }
+{}
+
+/// While background work is stopped a flush step makes no call.
+pub fn stopped_work_rests()
+    ensures { StoppedWorkRests }
 {}
 
 /// While 64 batches wait, no further one is queued.
@@ -52,4 +72,9 @@ pub fn full_queue()
 /// The calls of a put behind a full segment, and that the store is full then.
 pub fn full_segment()
     ensures { FullSegment }
+{}
+
+/// The calls of a flush, and that the store isn't full behind it.
+pub fn first_flush()
+    ensures { FirstFlush }
 {}

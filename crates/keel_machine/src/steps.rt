@@ -40,3 +40,21 @@ pub enum ResumeStep {
     Cancelled { job: u64, current: u64 },
     OutOfMemory,
 }
+
+/// What a step of a flush did.
+#[derive(Clone, Copy, Debug)]
+pub enum JobStep {
+    /// No segment is full, or background work is stopped, or the boot of this opening hasn't cleared.
+    Idle,
+    /// The job of this number made this call, and has others before it.
+    Moved { job: u64, call: Call },
+    /// The job made its last call: its table is in use, and its segment is gone.
+    Done { job: u64 },
+    /// The job's call failed, and the job is over.
+    Failed(Failure),
+    /// The job would draw a number past its end.
+    Spent(Counter),
+    /// The caller holds another number than the job that is or was last under way.
+    Cancelled { job: u64, current: u64 },
+    OutOfMemory,
+}
