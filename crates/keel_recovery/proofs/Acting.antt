@@ -1,7 +1,8 @@
 -- A group's append and its sync keep what the store's logs hold.
-use Rattle.std.proofs.Common.{◌≡◌, inl, inr, ℕ, ◌+◌, Bool, true, false, List, [], ◌∷◌, ◌++◌, length, take, drop, Option, Some, None, refl, sym, ap, subst, ◌∙◌}
+use Rattle.std.proofs.Common.{◌≡◌, inl, inr, ℕ, ◌+◌, Bool, true, false, List, [], ◌∷◌, ◌++◌, length, take, drop, Option, Some, None, refl, sym, ap, subst, ◌∙◌, arith}
 use Rattle.std.proofs.lemmas.List.{append_assoc, append-nil}
 use Rattle.keel_base.specs.Points.{Point, fold_batches}
+use Rattle.keel_base.specs.declared.failure.Failure.{Failure}
 use Rattle.keel_base.specs.declared.file_name.FileName.TheVariants.{Log}
 use Rattle.keel_base.specs.declared.op.Batch.{Batch}
 use Rattle.keel_base.specs.declared.op.Op.{Op}
@@ -19,13 +20,14 @@ use Rattle.keel_recovery.specs.Calls.{point_handed, CanGrow, grown}
 use Rattle.keel_recovery.specs.Keeping.{Keeps}
 use Rattle.keel_recovery.specs.Machine.{ops_waiting, AreOnTheirWay, HasLog}
 use Rattle.keel_recovery.specs.Roots.{point_at}
+use Rattle.keel_recovery.proofs.FlushKept.{flush_on, longer_last, longer_same}
 use Rattle.keel_recovery.proofs.Following.{point_stays, same_all}
 use Rattle.keel_recovery.proofs.Growing.{log_append_keeps}
 use Rattle.keel_recovery.proofs.Publishing.{publish_keeps}
-use Rattle.keel_recovery.proofs.Ordering.{went_well, first_limits, handed_order, published_order, none_handed}
+use Rattle.keel_recovery.proofs.Ordering.{went_well, first_limits, handed_order, published_order, none_handed, goes_while}
 use Rattle.keel_recovery.proofs.Switching.{closed}
 
-module _ (s : State) (group : Group) (log : SegmentLog) (before after : Disk) (one : IsOneToOne before) (cuts : CutsExist before) where
+module _ (s : State) (group : Group) (log : SegmentLog) (before after : Disk) (one : IsOneToOne before) (cuts : CutsExist before) (halts : Option Failure) where
   abbrev story : Story
   story = s.story
 
@@ -57,7 +59,7 @@ module _ (s : State) (group : Group) (log : SegmentLog) (before after : Disk) (o
   running drawn = Some (group_in own_batches made drawn)
 
   abbrev LogBefore : Option ℕ → Type 0
-  LogBefore drawn = HasLog log before s.levels story immutable batches waiting None (running drawn) next_file s.numbers.in_tables
+  LogBefore drawn = HasLog log before s.levels story immutable batches waiting halts (running drawn) next_file s.numbers.in_tables s.jobs.flush.running s.numbers.manifest
 
   -- ---- an append
 
@@ -81,13 +83,13 @@ module _ (s : State) (group : Group) (log : SegmentLog) (before after : Disk) (o
 
   -- the log with the group's batches
   record Added (h : LogBefore None) : Type 0 where
-    kept : Keeps h.ways h.place (h.full ++ grown (ops_of own_batches) h.own ∷ []) s.levels tried next_file after
+    kept : Keeps (h.way ∷ []) h.place (h.full ++ grown (ops_of own_batches) h.own ∷ []) s.levels tried next_file after
     can : CanGrow h.full (grown (ops_of own_batches) h.own) (log.size + length added) after
 
   appended : (h : LogBefore None) → story.limbo ≡ [] → DiskStep before (Append (Log log.number) added) went_well after → Added h
   appended h none step =
       let there = subst (λ (n : ℕ). DiskStep before (Append (Log n) added) went_well after) (sym h.number_is) step in
-      let both = log_append_keeps h.ways h.place next_file log.size h.full h.own (ops_of own_batches) added s.levels story went_well before after one h.keeps h.order.0
+      let both = log_append_keeps (h.way ∷ []) h.place next_file log.size h.full h.own (ops_of own_batches) added s.levels story went_well before after one h.keeps h.order.0
       (limits_are none h.order.2) (bytes_are none) there in
       record { kept = both.0; can = both.1 }
 
@@ -99,11 +101,11 @@ module _ (s : State) (group : Group) (log : SegmentLog) (before after : Disk) (o
 
   -- the sync is left
   pub add_done : (h : LogBefore None) → story.limbo ≡ [] → drop (made + 1) plan ≡ SyncLog ∷ [] → DiskStep before (Append (Log log.number) added) went_well after
-      → HasLog longer after s.levels tried immutable batches waiting None (Some (group_in [] (made + 1) None)) next_file s.numbers.in_tables
+      → HasLog longer after s.levels tried immutable batches waiting halts (Some (group_in [] (made + 1) None)) next_file s.numbers.in_tables s.jobs.flush.running s.numbers.manifest
   add_done h none left step =
       let behind = appended h none step in
       record {
-        ways = h.ways;
+        way = h.way;
         place = h.place;
         full = h.full;
         are_full = h.are_full;
@@ -113,6 +115,7 @@ module _ (s : State) (group : Group) (log : SegmentLog) (before after : Disk) (o
         keeps = behind.kept;
         reach = h.reach;
         tables_to = tables_handed h;
+        flushes = flush_on (Append (Log log.number) added) went_well before after one tt tt step h.way s.numbers.manifest s.jobs.flush.running halts s.levels s.numbers.in_tables (h.full ++ h.own ∷ []) (h.full ++ grown (ops_of own_batches) h.own ∷ []) next_file next_file (longer_last h.full h.own (grown (ops_of own_batches) h.own) refl) (omega arith) h.flushes.most h.flushes;
         order = (
           behind.can,
           inl (inr (record { all_handed = refl; left_is = left })),
@@ -125,22 +128,23 @@ module _ (s : State) (group : Group) (log : SegmentLog) (before after : Disk) (o
 
   -- no sync is wanted
   pub add_published : (h : LogBefore None) → story.limbo ≡ [] → DiskStep before (Append (Log log.number) added) went_well after
-      → HasLog longer after s.levels (published false tried) immutable (batches ++ tried.limbo) waiting None None next_file s.numbers.in_tables
+      → HasLog longer after s.levels (published false tried) immutable (batches ++ tried.limbo) waiting halts None next_file s.numbers.in_tables s.jobs.flush.running s.numbers.manifest
   add_published h none step =
       let behind = appended h none step in
       let own = grown (ops_of own_batches) h.own in
       record {
-        ways = h.ways;
+        way = h.way;
         place = h.place;
         full = h.full;
         are_full = h.are_full;
         own = own;
         number_is = h.number_is;
         batches_are = grown_batches h ∙ sym (append-nil (batches ++ tried.limbo));
-        keeps = publish_keeps h.ways h.place next_file (log.size + length added) false h.full own s.levels tried after behind.kept behind.can h.reach (λ e. cc);
+        keeps = publish_keeps (h.way ∷ []) h.place next_file (log.size + length added) false h.full own s.levels tried after behind.kept behind.can h.reach (λ e. cc);
         reach = h.reach;
         tables_to = tables_published false h.place tried ∙ tables_handed h;
-        order = (
+        flushes = flush_on (Append (Log log.number) added) went_well before after one tt tt step h.way s.numbers.manifest s.jobs.flush.running halts s.levels s.numbers.in_tables (h.full ++ h.own ∷ []) (h.full ++ grown (ops_of own_batches) h.own ∷ []) next_file next_file (longer_last h.full h.own (grown (ops_of own_batches) h.own) refl) (omega arith) h.flushes.most h.flushes;
+        order = goes_while halts _ (
           behind.can,
           refl,
           published_order tried (ops_waiting waiting) (handed_order (point_of story).seq story.limbo (ops_of own_batches) (ops_waiting waiting) h.order.2),
@@ -148,21 +152,22 @@ module _ (s : State) (group : Group) (log : SegmentLog) (before after : Disk) (o
       }
 
   pub sync_done : (h : LogBefore None) → own_batches ≡ [] → DiskStep before (Sync (Log log.number)) went_well after
-      → HasLog log after s.levels (published true story) immutable (batches ++ story.limbo) waiting None None next_file s.numbers.in_tables
+      → HasLog log after s.levels (published true story) immutable (batches ++ story.limbo) waiting halts None next_file s.numbers.in_tables s.jobs.flush.running s.numbers.manifest
   sync_done h none step =
-      let behind = closed s group log before after one cuts h step in
+      let behind = closed s group log before after one cuts halts h step in
       record {
-        ways = h.ways;
+        way = h.way;
         place = h.place;
         full = h.full;
         are_full = h.are_full;
         own = h.own;
         number_is = h.number_is;
         batches_are = h.batches_are ∙ sym (append-nil (batches ++ story.limbo));
-        keeps = publish_keeps h.ways h.place next_file log.size true h.full h.own s.levels story after behind.0 behind.1 h.reach (λ e. behind.2);
+        keeps = publish_keeps (h.way ∷ []) h.place next_file log.size true h.full h.own s.levels story after behind.0 behind.1 h.reach (λ e. behind.2);
         reach = h.reach;
         tables_to = tables_published true h.place story ∙ h.tables_to;
-        order = (
+        flushes = flush_on (Sync (Log log.number)) went_well before after one tt tt step h.way s.numbers.manifest s.jobs.flush.running halts s.levels s.numbers.in_tables (h.full ++ h.own ∷ []) (h.full ++ h.own ∷ []) next_file next_file (longer_same (h.full ++ h.own ∷ [])) (omega arith) h.flushes.most h.flushes;
+        order = goes_while halts _ (
           behind.1,
           refl,
           published_order story (ops_waiting waiting)

@@ -34,7 +34,7 @@ use Rattle.keel_recovery.proofs.Numbering.{folded_append}
 use Rattle.keel_recovery.proofs.OpenTables.{said_known}
 use Rattle.keel_recovery.proofs.Rows.{map_folds, batch_rows_append}
 use Rattle.keel_recovery.proofs.Showing.{read_once}
-use Rattle.keel_resume.specs.Drafts.{batch_rows, count_ops}
+use Rattle.keel_draft.specs.Drafts.{batch_rows, count_ops}
 
 -- what reads ask of the state of a device
 record Bears (state : Disk) (s : State) : Type 0 where
@@ -109,7 +109,7 @@ same_front xs ys rest e =
     sym (take_at xs rest (length xs) refl) ∙ ap (take (length xs)) e ∙ take_at ys rest (length xs) (sym long)
 
 log_bears : (log : SegmentLog) (state : Disk) (s : State) → IsOneToOne state
-    → HasLog log state s.levels s.story s.segments.immutable s.segments.active.batches s.writing.waiting (stopping s) s.jobs.write.running s.numbers.next_file s.numbers.in_tables → Bears state s
+    → HasLog log state s.levels s.story s.segments.immutable s.segments.active.batches s.writing.waiting (stopping s) s.jobs.write.running s.numbers.next_file s.numbers.in_tables s.jobs.flush.running s.numbers.manifest → Bears state s
 log_bears log state s one h =
     let story = s.story in
     let base = point_at h.place story in
@@ -140,7 +140,7 @@ kept_bears : (state : Disk) (s : State) → IsKept state s → Bears state s
 kept_bears state s h = by s.segments.active.log h.stored
   where
     by : (o : Option SegmentLog)
-        → HoldsBy o state s.levels s.story s.segments.immutable s.segments.active.batches s.writing.waiting (stopping s) s.jobs.write.running s.numbers.next_file s.numbers.in_tables → Bears state s
+        → HoldsBy o state s.levels s.story s.segments.immutable s.segments.active.batches s.writing.waiting (stopping s) s.jobs.write.running s.numbers.next_file s.numbers.in_tables s.jobs.flush.running s.numbers.manifest → Bears state s
     by None stored = absurd stored
     by (Some log) stored = log_bears log state s h.one_to_one stored
 

@@ -13,7 +13,7 @@ use Rattle.keel_machine.specs.Resuming.{AreDrafts, Makes, batches_in, boot_is_to
 use Rattle.keel_machine.specs.States.{State, Resumption, entries_in, is_booting}
 use Rattle.keel_machine.specs.Tests.{first_some, when, differing}
 use Rattle.keel_machine.proofs.FirstTests.{none_when, none_of}
-use Rattle.keel_resume.specs.Drafts.{Draft}
+use Rattle.keel_draft.specs.Drafts.{Draft}
 use Rattle.keel_resume.specs.Plans.{Act, change_of, draws, failure_of}
 use Rattle.keel_recovery.specs.BootCalls.{AreAllFixed, AreFixed, AreOver, BootKept, HasMadeSo, RunsSo}
 use Rattle.keel_recovery.specs.BootRoll.{Gives, HasAllMade, RollGives}
@@ -85,6 +85,7 @@ begun_kept s drafts state kept not_running rests are =
       none_active = kept.none_active;
       none_waits = kept.none_waits;
       no_group = kept.no_group;
+      no_flush = kept.no_flush;
     }
 
 started_kept : (s : State) (drafts : List Draft) (state : Disk) → BootKept s state → (runs : Option Resumption) → s.jobs.resume.running ≡ runs → first_some (rests_of runs s) ≡ None → AreDrafts runs s drafts

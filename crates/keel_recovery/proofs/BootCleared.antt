@@ -1,5 +1,5 @@
 -- The last call of a boot, answered Ok: CURRENT names the new manifest for good, and the store's tables have all batches.
-use Rattle.std.proofs.Common.{◌≡◌, ℕ, zero, suc, ◌+◌, ◌≤◌, List, [], ◌∷◌, ◌++◌, length, option_map, ◌-◌, take, drop, Some, None, refl, sym, ap, subst, ◌∙◌, inl, inr, arith, append-nil}
+use Rattle.std.proofs.Common.{◌≡◌, ℕ, zero, suc, ◌+◌, ◌≤◌, List, [], ◌∷◌, ◌++◌, length, option_map, ◌-◌, take, drop, Option, Some, None, unwrap_or, refl, sym, ap, subst, ◌∙◌, inl, inr, arith, append-nil}
 use Rattle.std.proofs.lemmas.Bool.{le-leb}
 use Rattle.keel_base.specs.declared.file_name.FileName.{FileName}
 use Rattle.keel_base.specs.declared.file_name.FileName.TheVariants.{Current, Log, Manifest}
@@ -23,16 +23,19 @@ use Rattle.keel_directory.specs.TableFiles.{TableFile}
 use Rattle.keel_machine.specs.Outside.{as_answer}
 use Rattle.keel_machine.specs.Resuming.{act_done, cleared_story}
 use Rattle.keel_machine.specs.States.{State, Story, Resumption, new_log, point_of}
+use Rattle.keel_manifest.specs.declared.manifest.Progress.TheVariants.{Firm}
 use Rattle.keel_manifest.specs.declared.roll.RollCall.TheVariants.{SyncDirectory}
+use Rattle.keel_manifest.specs.State.{ManifestState}
 use Rattle.keel_resume.specs.Plans.{Job, Rolls, edit_of}
 use Rattle.keel_version.specs.Tables.{Contents, nothing}
 use Rattle.keel_recovery.specs.Booting.{IsBooting}
 use Rattle.keel_recovery.specs.BootCalls.{AreAllFixed, AreFixed, AreNewLogs, AreRising, BootKept, HasMadeSo, IsFixedLog, IsMade}
 use Rattle.keel_recovery.specs.BootLaws.{IsAfterCrash}
-use Rattle.keel_recovery.specs.BootRoll.{Gives, levels_behind}
+use Rattle.keel_recovery.specs.BootRoll.{Gives, contents_behind, levels_behind}
 use Rattle.keel_recovery.specs.BootTurns.{IsCleared}
 use Rattle.keel_recovery.specs.Calls.{AllReach, CanGrow}
 use Rattle.keel_recovery.specs.Chains.{Chained, HoldsRecords, size_of_first}
+use Rattle.keel_recovery.specs.Flushes.{HasFlush}
 use Rattle.keel_recovery.specs.Keeping.{Keeps, HoldStory}
 use Rattle.keel_recovery.specs.Roots.{AllGo, AllRoots, Goes, IsRoot, IsWay, Say, Way, first_from, version_behind, BeginsAt}
 use Rattle.keel_recovery.proofs.BootLast.{settled_boot}
@@ -151,6 +154,33 @@ module _ (bound : ℕ) (levels : List TableFile) (story : Story) (next : ℕ) (j
     };
   }
 
+  -- the manifest is ready for an edit, and says the levels
+  pub flushes_cleared : (shown : ManifestState) → shown.in_use ≡ Some (record { number = m; edits = 1; progress = Firm (length (record_bytes 0 (spelling (edit_of job next)))) })
+      → HasFlush way (levels_behind levels job) job.last_seq (log ∷ []) None None next shown state
+  flushes_cleared shown used = record {
+    in_use = record {
+      version = contents_behind levels job parts.log next;
+      is_version = gives.version;
+      tables = refl;
+      last = refl;
+      min_log = omega arith;
+      next = omega arith;
+      order = gives.order;
+      each = gives.each;
+    };
+    most = parts.most;
+    goes = record {
+      size = length (record_bytes 0 (spelling (edit_of job next)));
+      opened = record {
+        steady = record { named = λ count. behind_none count (Manifest m) state none_waits ∙ manifest.present.named; not_cut = manifest.present.not_cut };
+        going = record { not_spoilt = manifest.clean; read = manifest.held.read ∙ sym manifest.held.meant };
+        size_is = ap length manifest.held.meant;
+      };
+      firm = refl;
+      known = record { edits = 1; in_use = used };
+    };
+  }
+
   min_log_is : (count : ℕ) (version : Contents) → 1 ≡ count → version_behind nothing (take count (edit_of job next ∷ [])) ≡ Some version → version.min_log ≤ parts.log
   min_log_is count version is some =
       let same = some_one (sym gives.version ∙ subst (λ n. version_behind nothing (take n (edit_of job next ∷ [])) ≡ Some version) (sym is) some) in
@@ -167,7 +197,7 @@ module _ (bound : ℕ) (levels : List TableFile) (story : Story) (next : ℕ) (j
 module _ (s : State) (running : Resumption) (state after : Disk) (one : IsOneToOne state) (kept : BootKept s state) (made : HasMadeSo kept.bound s running.job state)
     (parts : AreAllFixed kept.bound running.job s.numbers.next_file state) (gives : Gives s.levels s.story running.job parts.log s.numbers.next_file)
     (m : ℕ) (manifest : IsMade kept.bound (Manifest m) (record_bytes 0 (spelling (edit_of running.job s.numbers.next_file))) state) (current : IsMade kept.bound Current (current_of m) state)
-    (step : DiskStep state SyncDir (as_answer None) after) where
+    (manifest_is : running.job.progress.manifest ≡ Some m) (step : DiskStep state SyncDir (as_answer None) after) where
   abbrev next : ℕ
   next = s.numbers.next_file
 
@@ -214,6 +244,9 @@ module _ (s : State) (running : Resumption) (state after : Disk) (one : IsOneToO
       (length s.story.log) (empty_log parts.log s.story ∷ []) (levels_behind s.levels running.job) s.story next after
   all_kept = keeps_cleared kept.bound s.levels s.story next running.job after one_after kept.after booting parts_after made.rising made.last_is gives none_waits m manifest_after current_after
 
+  abbrev the_way : Way
+  the_way = way kept.bound s.levels s.story next running.job after one_after kept.after booting parts_after made.rising made.last_is gives none_waits m manifest_after current_after
+
   pub clears : IsCleared (act_done (Rolls SyncDirectory) running [] s) after
   clears = record {
     way = way kept.bound s.levels s.story next running.job after one_after kept.after booting parts_after made.rising made.last_is gives none_waits m manifest_after current_after;
@@ -224,4 +257,9 @@ module _ (s : State) (running : Resumption) (state after : Disk) (one : IsOneToO
     grows = subst (λ (story : Story). CanGrow [] (empty_log parts.log story) 0 after) same_story
         (grows_cleared kept.bound s.levels s.story next running.job after one_after kept.after booting parts_after made.rising made.last_is gives none_waits m manifest_after current_after);
     reach = reach_cleared kept.bound s.levels s.story next running.job after one_after kept.after booting parts_after made.rising made.last_is gives none_waits m manifest_after current_after;
+    flushes = subst (λ (story : Story). HasFlush the_way (levels_behind s.levels running.job) (point_of story).seq (empty_log parts.log story ∷ []) None None next (act_done (Rolls SyncDirectory) running [] s).numbers.manifest after) same_story
+        (subst (λ (n : ℕ). HasFlush the_way (levels_behind s.levels running.job) n (empty_log parts.log s.story ∷ []) None None next (act_done (Rolls SyncDirectory) running [] s).numbers.manifest after) made.last_is
+        (flushes_cleared kept.bound s.levels s.story next running.job after one_after kept.after booting parts_after made.rising made.last_is gives none_waits m manifest_after current_after
+        (act_done (Rolls SyncDirectory) running [] s).numbers.manifest
+        (ap (λ (number : ℕ). Some (record { number = number; edits = 1; progress = Firm (length (record_bytes 0 (spelling (edit_of running.job next)))) })) (ap (λ (o : Option ℕ). unwrap_or o 0) manifest_is))));
   }

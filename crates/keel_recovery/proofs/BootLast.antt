@@ -24,7 +24,7 @@ use Rattle.keel_machine.specs.Outside.{as_answer}
 use Rattle.keel_machine.specs.Resuming.{act_failed}
 use Rattle.keel_machine.specs.States.{State, Story}
 use Rattle.keel_manifest.specs.declared.roll.RollCall.TheVariants.{SyncDirectory}
-use Rattle.keel_resume.specs.Plans.{Rolls, failure_of}
+use Rattle.keel_resume.specs.Plans.{Job, Rolls, failure_of}
 use Rattle.keel_name.specs.Current.{current_of}
 use Rattle.keel_recovery.specs.Booting.{below, rest_of, IsBooting, IsMoved, IsNewer, IsOldTable, IsRoll, OldStands}
 use Rattle.keel_recovery.specs.BootCalls.{BootKept, IsMade, IsUnmoved}
@@ -95,7 +95,7 @@ module _ (bound : ℕ) (levels : List TableFile) (story : Story) (next_file : �
       are_edits = roll.is_way.are_edits;
       meant_is = ap (λ (files : List File). (file_at roll.way.file files).meant) files_same ∙ roll.is_way.meant_is;
       firm_to = omega (arith, roll.is_way.firm_to, ap (λ (files : List File). (file_at roll.way.file files).firm) files_same);
-      read_is = ap (λ (files : List File). (file_at roll.way.file files).read) files_same ∙ (roll.is_way.read_is ∙ sym (ap (λ (files : List File). (file_at roll.way.file files).meant) files_same));
+      read_to = omega (arith, roll.is_way.read_to, ap (λ (files : List File). length (file_at roll.way.file files).read) files_same);
       not_cut = uncut roll.way.file roll.is_way.not_cut;
     };
     goes = record {
@@ -173,8 +173,8 @@ module _ (s : State) (state after : Disk) (one : IsOneToOne state) (kept : BootK
       none (length after.waiting) current.file (ap (λ (ops : List Operation). find Current (operated_all ops after.firm)) (take-length after.waiting) ∙ stays.0.named) current.newer
 
   -- where it failed, the boot is over, and CURRENT may be either
-  pub last_failed : (fault : Fault) → DiskStep state SyncDir (as_answer (Some fault)) after → BootKept (act_failed (Rolls SyncDirectory) (failure_of (Rolls SyncDirectory) fault) s) after
-  last_failed fault step =
+  pub last_failed : (job : Job) (fault : Fault) → DiskStep state SyncDir (as_answer (Some fault)) after → BootKept (act_failed (Rolls SyncDirectory) job (failure_of (Rolls SyncDirectory) fault) s) after
+  last_failed job fault step =
       let leaves = sync_dir_leaves state after (Some fault) step in
       record {
         bound = kept.bound;
@@ -188,4 +188,5 @@ module _ (s : State) (state after : Disk) (one : IsOneToOne state) (kept : BootK
         none_active = kept.none_active;
         none_waits = kept.none_waits;
         no_group = kept.no_group;
+        no_flush = kept.no_flush;
       }

@@ -17,7 +17,7 @@ use Rattle.keel_disk.proofs.Steadily.{present_firm}
 use Rattle.keel_machine.specs.Outside.{as_answer}
 use Rattle.keel_machine.specs.Resuming.{act_done, act_failed, one_more}
 use Rattle.keel_machine.specs.States.{State, Resumption}
-use Rattle.keel_resume.specs.Drafts.{Draft, bytes_in}
+use Rattle.keel_draft.specs.Drafts.{Draft, bytes_in}
 use Rattle.keel_resume.specs.Plans.{Act, MakeLog, SyncLogName, failure_of, left_of, moved, roll_acts}
 use Rattle.keel_manifest.specs.declared.roll.RollCall.TheVariants.{MakeManifest, AppendEdit, SyncManifest, MakeTemporary, AppendName, SyncTemporary, Rename, SyncDirectory}
 use Rattle.keel_recovery.specs.BootCalls.{AreAllFixed, AreFixed, AreMade, AreNewLogs, AtLogName, AtTables, BootKept, HasMadeSo, IsEmptyLog, IsFixed, IsFixedLog, IsMade}
@@ -81,7 +81,7 @@ module _ (s : State) (running : Resumption) (state after : Disk) (one : IsOneToO
     pub make_log : next < 2 ^ 56 → (later : List Act) (next_act : Act) (behind : List Act) → left_of running.job ≡ MakeLog ∷ later → later ≡ SyncLogName ∷ roll_acts → DiskStep state (Create (Log next)) (as_answer None) after
         → BootKept (act_done MakeLog running (next_act ∷ behind) s) after
     make_log fits later next_act behind left later_is step =
-        goes_on s state after kept at.unmoved (next + 1) (one_more MakeLog next running) (omega arith) (log_on None step) (record {
+        goes_on s state after kept at.unmoved (next + 1) _ (one_more MakeLog next running) (omega arith) (log_on None step) (record {
           tables = record { are = made.tables.are; few = made.tables.few };
           live_is = made.live_is;
           last_is = made.last_is;
@@ -90,8 +90,8 @@ module _ (s : State) (running : Resumption) (state after : Disk) (one : IsOneToO
           stage = inr (inr (inl (log_made fits step later left later_is)));
         })
 
-    pub make_log_failed : (fault : Fault) → DiskStep state (Create (Log next)) (as_answer (Some fault)) after → BootKept (act_failed MakeLog (failure_of MakeLog fault) s) after
-    make_log_failed fault step = is_over s state after kept at.unmoved (next + 1) (failure_of MakeLog fault) (omega arith) (log_on (Some fault) step)
+    pub make_log_failed : (fault : Fault) → DiskStep state (Create (Log next)) (as_answer (Some fault)) after → BootKept (act_failed MakeLog running.job (failure_of MakeLog fault) s) after
+    make_log_failed fault step = is_over s state after kept at.unmoved (next + 1) _ (failure_of MakeLog fault) (omega arith) (log_on (Some fault) step)
 
   -- ---- its name gets firm
 
@@ -124,7 +124,7 @@ module _ (s : State) (running : Resumption) (state after : Disk) (one : IsOneToO
     pub sync_log_name : (later : List Act) (next_act : Act) (behind : List Act) → left_of running.job ≡ SyncLogName ∷ later → later ≡ roll_acts → DiskStep state SyncDir (as_answer None) after
         → BootKept (act_done SyncLogName running (next_act ∷ behind) s) after
     sync_log_name later next_act behind left later_is step =
-        goes_on s state after kept at.unmoved next (one_more SyncLogName next running) (omega arith) (name_on None step) (record {
+        goes_on s state after kept at.unmoved next _ (one_more SyncLogName next running) (omega arith) (name_on None step) (record {
           tables = record { are = made.tables.are; few = made.tables.few };
           live_is = made.live_is;
           last_is = made.last_is;
@@ -138,5 +138,5 @@ module _ (s : State) (running : Resumption) (state after : Disk) (one : IsOneToO
           })));
         })
 
-    pub sync_log_name_failed : (fault : Fault) → DiskStep state SyncDir (as_answer (Some fault)) after → BootKept (act_failed SyncLogName (failure_of SyncLogName fault) s) after
-    sync_log_name_failed fault step = is_over s state after kept at.unmoved next (failure_of SyncLogName fault) (omega arith) (name_on (Some fault) step)
+    pub sync_log_name_failed : (fault : Fault) → DiskStep state SyncDir (as_answer (Some fault)) after → BootKept (act_failed SyncLogName running.job (failure_of SyncLogName fault) s) after
+    sync_log_name_failed fault step = is_over s state after kept at.unmoved next _ (failure_of SyncLogName fault) (omega arith) (name_on (Some fault) step)

@@ -1,14 +1,15 @@
 -- The calls of a boot that make its tables and its log.
-use Rattle.std.proofs.Common.{◌≡◌, ℕ, zero, suc, ◌≤◌, List, [], ◌∷◌, ◌++◌, map, drop, Some, None, refl, sym, ap, ◌∙◌, arith, append_assoc, add-one}
+use Rattle.std.proofs.Common.{◌≡◌, ℕ, zero, suc, ◌≤◌, List, [], ◌∷◌, ◌++◌, map, drop, Some, None, sym, ap, ◌∙◌, arith, append_assoc, add-one}
 use Rattle.std.specs.List.{flat_map}
 use Rattle.keel_base.specs.declared.failure.Failure.{Failure}
 use Rattle.keel_base.specs.declared.file_name.FileName.TheVariants.{Current}
 use Rattle.keel_disk.specs.Directory.{find}
 use Rattle.keel_disk.specs.State.{State as Disk}
-use Rattle.keel_machine.specs.Resuming.{with_next_file, with_resumption}
+use Rattle.keel_machine.specs.Resuming.{with_numbers, with_resumption}
+use Rattle.keel_manifest.specs.State.{ManifestState}
 use Rattle.keel_machine.specs.States.{State, Resumption}
 use Rattle.keel_machine.specs.WritingAfter.{noted}
-use Rattle.keel_resume.specs.Drafts.{Draft, pieces_in}
+use Rattle.keel_draft.specs.Drafts.{Draft, pieces_in}
 use Rattle.keel_resume.proofs.Steps.{handed_made}
 use Rattle.keel_resume.specs.Plans.{Job, Act, MakeTable, AddPiece, SyncTable, left_of, log_acts, moved, plan_of, roll_acts, table_acts}
 use Rattle.keel_recovery.specs.BootCalls.{BootKept, HasMadeSo, IsUnmoved}
@@ -43,9 +44,9 @@ plan_cons draft rest =
 
 module _ (s : State) (state after : Disk) (kept : BootKept s state) (was : IsUnmoved kept.bound state) where
   -- with what it has made then
-  pub goes_on : (next : ℕ) (running : Resumption) → s.numbers.next_file ≤ next → KeptOn kept.bound s.levels s.story next state after
-      → HasMadeSo kept.bound (with_resumption (Some running) (with_next_file next s)) running.job after → BootKept (with_resumption (Some running) (with_next_file next s)) after
-  goes_on next running more on made = record {
+  pub goes_on : (next : ℕ) (manifest : ManifestState) (running : Resumption) → s.numbers.next_file ≤ next → KeptOn kept.bound s.levels s.story next state after
+      → HasMadeSo kept.bound (with_resumption (Some running) (with_numbers next manifest s)) running.job after → BootKept (with_resumption (Some running) (with_numbers next manifest s)) after
+  goes_on next manifest running more on made = record {
     bound = kept.bound;
     booting = on.booting;
     after = kept.after;
@@ -57,11 +58,12 @@ module _ (s : State) (state after : Disk) (kept : BootKept s state) (was : IsUnm
     none_active = kept.none_active;
     none_waits = kept.none_waits;
     no_group = kept.no_group;
+    no_flush = kept.no_flush;
   }
 
   -- behind a failure
-  pub is_over : (next : ℕ) (failure : Failure) → s.numbers.next_file ≤ next → KeptOn kept.bound s.levels s.story next state after → BootKept (noted failure (with_resumption None (with_next_file next s))) after
-  is_over next failure more on = record {
+  pub is_over : (next : ℕ) (manifest : ManifestState) (failure : Failure) → s.numbers.next_file ≤ next → KeptOn kept.bound s.levels s.story next state after → BootKept (noted failure (with_resumption None (with_numbers next manifest s))) after
+  is_over next manifest failure more on = record {
     bound = kept.bound;
     booting = on.booting;
     after = kept.after;
@@ -73,4 +75,5 @@ module _ (s : State) (state after : Disk) (kept : BootKept s state) (was : IsUnm
     none_active = kept.none_active;
     none_waits = kept.none_waits;
     no_group = kept.no_group;
+    no_flush = kept.no_flush;
   }

@@ -54,7 +54,7 @@ made_way bound manifest edit state is held = record {
   are_edits = (is, tt);
   meant_is = held.held.meant ∙ sym (one_record (spelling edit));
   firm_to = omega (arith, ap length (one_record (spelling edit)), held.held.firm);
-  read_is = held.held.read ∙ sym held.held.meant;
+  read_to = omega (arith, ap length (one_record (spelling edit)), ap length held.held.read);
   not_cut = held.present.not_cut;
 }
 
@@ -123,6 +123,7 @@ module _ (s : State) (running : Resumption) (state after : Disk) (one : IsOneToO
     };
     newer = manifest.newer;
     held = manifest.held;
+    clean = manifest.clean;
   }
 
   temp_uncut : has_waiting_cut temporary.file there.waiting ≡ false
@@ -157,6 +158,7 @@ module _ (s : State) (running : Resumption) (state after : Disk) (one : IsOneToO
     present = record { named = current_of_read m state temporary.file temporary.present.named; not_cut = temp_uncut };
     newer = temporary.newer;
     held = temporary.held;
+    clean = temporary.clean;
   }
 
   not_unmoved : IsUnmoved kept.bound there → ⊥
@@ -192,9 +194,10 @@ module _ (s : State) (running : Resumption) (state after : Disk) (one : IsOneToO
         none_active = kept.none_active;
         none_waits = kept.none_waits;
         no_group = kept.no_group;
+        no_flush = kept.no_flush;
       })
 
-  moved_over : (fault : Fault) → BootKept (act_failed (Rolls RenameCall) (failure_of (Rolls RenameCall) fault) s) there
+  moved_over : (fault : Fault) → BootKept (act_failed (Rolls RenameCall) running.job (failure_of (Rolls RenameCall) fault) s) there
   moved_over fault = record {
     bound = kept.bound;
     booting = booting_there;
@@ -207,12 +210,13 @@ module _ (s : State) (running : Resumption) (state after : Disk) (one : IsOneToO
     none_active = kept.none_active;
     none_waits = kept.none_waits;
     no_group = kept.no_group;
+    no_flush = kept.no_flush;
   }
 
-  pub move_failed : (fault : Fault) → DiskStep state (Rename (Temp m) Current) (as_answer (Some fault)) after → BootKept (act_failed (Rolls RenameCall) (failure_of (Rolls RenameCall) fault) s) after
+  pub move_failed : (fault : Fault) → DiskStep state (Rename (Temp m) Current) (as_answer (Some fault)) after → BootKept (act_failed (Rolls RenameCall) running.job (failure_of (Rolls RenameCall) fault) s) after
   move_failed fault step =
       elim (rename_failed m state after temporary.file fault temporary.present.named step) [
-        | inl same ↦ subst (BootKept (act_failed (Rolls RenameCall) (failure_of (Rolls RenameCall) fault) s)) (sym same)
-            (is_over s state state kept unmoved next (failure_of (Rolls RenameCall) fault) (omega arith) (record { booting = kept.booting; unmoved = unmoved; firm = refl }))
-        | inr moved_ ↦ subst (BootKept (act_failed (Rolls RenameCall) (failure_of (Rolls RenameCall) fault) s)) (sym moved_) (moved_over fault)
+        | inl same ↦ subst (BootKept (act_failed (Rolls RenameCall) running.job (failure_of (Rolls RenameCall) fault) s)) (sym same)
+            (is_over s state state kept unmoved next _ (failure_of (Rolls RenameCall) fault) (omega arith) (record { booting = kept.booting; unmoved = unmoved; firm = refl }))
+        | inr moved_ ↦ subst (BootKept (act_failed (Rolls RenameCall) running.job (failure_of (Rolls RenameCall) fault) s)) (sym moved_) (moved_over fault)
       ]

@@ -97,7 +97,7 @@ module _ (s : State) (running : Resumption) (state after : Disk) (one : IsOneToO
   make_manifest unmoved fits next_act behind rolls left step =
       let on = manifest_on unmoved None step in
       let is = create_done (Manifest next) state after step in
-      goes_on s state after kept unmoved (next + 1) (one_more (Rolls MakeManifest) next running) (omega arith) on (record {
+      goes_on s state after kept unmoved (next + 1) _ (one_more (Rolls MakeManifest) next running) (omega arith) on (record {
         tables = record { are = made.tables.are; few = made.tables.few };
         live_is = made.live_is;
         last_is = made.last_is;
@@ -119,8 +119,8 @@ module _ (s : State) (running : Resumption) (state after : Disk) (one : IsOneToO
         })));
       })
 
-  pub make_manifest_failed : (unmoved : IsUnmoved kept.bound state) (fault : Fault) → DiskStep state (Create (Manifest next)) (as_answer (Some fault)) after → BootKept (act_failed (Rolls MakeManifest) (failure_of (Rolls MakeManifest) fault) s) after
-  make_manifest_failed unmoved fault step = is_over s state after kept unmoved (next + 1) (failure_of (Rolls MakeManifest) fault) (omega arith) (manifest_on unmoved (Some fault) step)
+  pub make_manifest_failed : (unmoved : IsUnmoved kept.bound state) (fault : Fault) → DiskStep state (Create (Manifest next)) (as_answer (Some fault)) after → BootKept (act_failed (Rolls MakeManifest) running.job (failure_of (Rolls MakeManifest) fault) s) after
+  make_manifest_failed unmoved fault step = is_over s state after kept unmoved (next + 1) _ (failure_of (Rolls MakeManifest) fault) (omega arith) (manifest_on unmoved (Some fault) step)
 
   -- ---- the edit is appended, and gets firm
 
@@ -134,7 +134,7 @@ module _ (s : State) (running : Resumption) (state after : Disk) (one : IsOneToO
       append_edit next_act behind rolls left step =
           let on = edit_on None step in
           let is = append_done (Manifest manifest) edit_record state after being.file being.present step in
-          goes_on s state after kept unmoved next (one_more (Rolls AppendEdit) next running) (omega arith) on (record {
+          goes_on s state after kept unmoved next _ (one_more (Rolls AppendEdit) next running) (omega arith) on (record {
             tables = record { are = made.tables.are; few = made.tables.few };
             live_is = made.live_is;
             last_is = made.last_is;
@@ -156,8 +156,8 @@ module _ (s : State) (running : Resumption) (state after : Disk) (one : IsOneToO
             })));
           })
 
-      pub append_edit_failed : (fault : Fault) → DiskStep state (Append (Manifest manifest) edit_record) (as_answer (Some fault)) after → BootKept (act_failed (Rolls AppendEdit) (failure_of (Rolls AppendEdit) fault) s) after
-      append_edit_failed fault step = is_over s state after kept unmoved next (failure_of (Rolls AppendEdit) fault) (omega arith) (edit_on (Some fault) step)
+      pub append_edit_failed : (fault : Fault) → DiskStep state (Append (Manifest manifest) edit_record) (as_answer (Some fault)) after → BootKept (act_failed (Rolls AppendEdit) running.job (failure_of (Rolls AppendEdit) fault) s) after
+      append_edit_failed fault step = is_over s state after kept unmoved next _ (failure_of (Rolls AppendEdit) fault) (omega arith) (edit_on (Some fault) step)
 
     module _ (being : IsBeingMade kept.bound (Manifest manifest) edit_record state) where
       firm_on : (failed_ : Option Fault) → DiskStep state (Sync (Manifest manifest)) (as_answer failed_) after → KeptOn kept.bound s.levels s.story next state after
@@ -168,7 +168,7 @@ module _ (s : State) (running : Resumption) (state after : Disk) (one : IsOneToO
       sync_manifest next_act behind rolls left step =
           let on = firm_on None step in
           let is = sync_done (Manifest manifest) state after being.file being.present step in
-          goes_on s state after kept unmoved next (one_more (Rolls SyncManifest) next running) (omega arith) on (record {
+          goes_on s state after kept unmoved next _ (one_more (Rolls SyncManifest) next running) (omega arith) on (record {
             tables = record { are = made.tables.are; few = made.tables.few };
             live_is = made.live_is;
             last_is = made.last_is;
@@ -190,8 +190,8 @@ module _ (s : State) (running : Resumption) (state after : Disk) (one : IsOneToO
             })));
           })
 
-      pub sync_manifest_failed : (fault : Fault) → DiskStep state (Sync (Manifest manifest)) (as_answer (Some fault)) after → BootKept (act_failed (Rolls SyncManifest) (failure_of (Rolls SyncManifest) fault) s) after
-      sync_manifest_failed fault step = is_over s state after kept unmoved next (failure_of (Rolls SyncManifest) fault) (omega arith) (firm_on (Some fault) step)
+      pub sync_manifest_failed : (fault : Fault) → DiskStep state (Sync (Manifest manifest)) (as_answer (Some fault)) after → BootKept (act_failed (Rolls SyncManifest) running.job (failure_of (Rolls SyncManifest) fault) s) after
+      sync_manifest_failed fault step = is_over s state after kept unmoved next _ (failure_of (Rolls SyncManifest) fault) (omega arith) (firm_on (Some fault) step)
 
     -- ---- the temporary file is made
 
@@ -206,7 +206,7 @@ module _ (s : State) (running : Resumption) (state after : Disk) (one : IsOneToO
       make_temporary next_act behind rolls left step =
           let on = temporary_on None step in
           let is = create_done (Temp manifest) state after step in
-          goes_on s state after kept unmoved next (one_more (Rolls MakeTemporary) next running) (omega arith) on (record {
+          goes_on s state after kept unmoved next _ (one_more (Rolls MakeTemporary) next running) (omega arith) on (record {
             tables = record { are = made.tables.are; few = made.tables.few };
             live_is = made.live_is;
             last_is = made.last_is;
@@ -228,8 +228,8 @@ module _ (s : State) (running : Resumption) (state after : Disk) (one : IsOneToO
             })));
           })
 
-      pub make_temporary_failed : (fault : Fault) → DiskStep state (Create (Temp manifest)) (as_answer (Some fault)) after → BootKept (act_failed (Rolls MakeTemporary) (failure_of (Rolls MakeTemporary) fault) s) after
-      make_temporary_failed fault step = is_over s state after kept unmoved next (failure_of (Rolls MakeTemporary) fault) (omega arith) (temporary_on (Some fault) step)
+      pub make_temporary_failed : (fault : Fault) → DiskStep state (Create (Temp manifest)) (as_answer (Some fault)) after → BootKept (act_failed (Rolls MakeTemporary) running.job (failure_of (Rolls MakeTemporary) fault) s) after
+      make_temporary_failed fault step = is_over s state after kept unmoved next _ (failure_of (Rolls MakeTemporary) fault) (omega arith) (temporary_on (Some fault) step)
 
   -- ---- the name is appended, and gets firm
 
@@ -243,7 +243,7 @@ module _ (s : State) (running : Resumption) (state after : Disk) (one : IsOneToO
       append_name next_act behind rolls left step =
           let on = name_on None step in
           let is = append_done (Temp manifest) (current_of manifest) state after being.file being.present step in
-          goes_on s state after kept unmoved next (one_more (Rolls AppendName) next running) (omega arith) on (record {
+          goes_on s state after kept unmoved next _ (one_more (Rolls AppendName) next running) (omega arith) on (record {
             tables = record { are = made.tables.are; few = made.tables.few };
             live_is = made.live_is;
             last_is = made.last_is;
@@ -265,8 +265,8 @@ module _ (s : State) (running : Resumption) (state after : Disk) (one : IsOneToO
             })));
           })
 
-      pub append_name_failed : (fault : Fault) → DiskStep state (Append (Temp manifest) (current_of manifest)) (as_answer (Some fault)) after → BootKept (act_failed (Rolls AppendName) (failure_of (Rolls AppendName) fault) s) after
-      append_name_failed fault step = is_over s state after kept unmoved next (failure_of (Rolls AppendName) fault) (omega arith) (name_on (Some fault) step)
+      pub append_name_failed : (fault : Fault) → DiskStep state (Append (Temp manifest) (current_of manifest)) (as_answer (Some fault)) after → BootKept (act_failed (Rolls AppendName) running.job (failure_of (Rolls AppendName) fault) s) after
+      append_name_failed fault step = is_over s state after kept unmoved next _ (failure_of (Rolls AppendName) fault) (omega arith) (name_on (Some fault) step)
 
     module _ (being : IsBeingMade kept.bound (Temp manifest) (current_of manifest) state) where
       ready_on : (failed_ : Option Fault) → DiskStep state (Sync (Temp manifest)) (as_answer failed_) after → KeptOn kept.bound s.levels s.story next state after
@@ -277,7 +277,7 @@ module _ (s : State) (running : Resumption) (state after : Disk) (one : IsOneToO
       sync_temporary next_act behind rolls left step =
           let on = ready_on None step in
           let is = sync_done (Temp manifest) state after being.file being.present step in
-          goes_on s state after kept unmoved next (one_more (Rolls SyncTemporary) next running) (omega arith) on (record {
+          goes_on s state after kept unmoved next _ (one_more (Rolls SyncTemporary) next running) (omega arith) on (record {
             tables = record { are = made.tables.are; few = made.tables.few };
             live_is = made.live_is;
             last_is = made.last_is;
@@ -299,5 +299,5 @@ module _ (s : State) (running : Resumption) (state after : Disk) (one : IsOneToO
             })));
           })
 
-      pub sync_temporary_failed : (fault : Fault) → DiskStep state (Sync (Temp manifest)) (as_answer (Some fault)) after → BootKept (act_failed (Rolls SyncTemporary) (failure_of (Rolls SyncTemporary) fault) s) after
-      sync_temporary_failed fault step = is_over s state after kept unmoved next (failure_of (Rolls SyncTemporary) fault) (omega arith) (ready_on (Some fault) step)
+      pub sync_temporary_failed : (fault : Fault) → DiskStep state (Sync (Temp manifest)) (as_answer (Some fault)) after → BootKept (act_failed (Rolls SyncTemporary) running.job (failure_of (Rolls SyncTemporary) fault) s) after
+      sync_temporary_failed fault step = is_over s state after kept unmoved next _ (failure_of (Rolls SyncTemporary) fault) (omega arith) (ready_on (Some fault) step)

@@ -19,7 +19,7 @@ use Rattle.keel_directory.specs.TableFiles.{TableFile, open_sized}
 use Rattle.keel_machine.specs.Resuming.{made_in}
 use Rattle.keel_machine.specs.States.{Story, entries_in, point_of}
 use Rattle.keel_open.specs.NextFiles.{number_in}
-use Rattle.keel_resume.specs.Drafts.{Draft, file_of as table_of, numbered}
+use Rattle.keel_draft.specs.Drafts.{Draft, file_of as table_of, numbered}
 use Rattle.keel_resume.specs.Plans.{Job, edit_of}
 use Rattle.keel_recovery.specs.Booting.{below, IsBooting, IsOldTable}
 use Rattle.keel_recovery.specs.BootCalls.{AreAllFixed, AreFixed, AreRising}
@@ -127,7 +127,7 @@ made_drawn next [] drafts rising = tt
 made_drawn next (number ∷ numbers) [] rising = tt
 made_drawn next (number ∷ numbers) (draft ∷ drafts) rising = (rising.1, made_drawn next numbers drafts rising.3)
 
-entries_all : (P : Added → Type 0) (tables : List TableFile) → AllByRecursion (λ (table : TableFile). P table.entry) tables → AllByRecursion P (entries_in tables)
+pub entries_all : (P : Added → Type 0) (tables : List TableFile) → AllByRecursion (λ (table : TableFile). P table.entry) tables → AllByRecursion P (entries_in tables)
 entries_all P [] are = tt
 entries_all P (table ∷ tables) are = (are.0, entries_all P tables are.1)
 

@@ -4,7 +4,7 @@ use Rattle.std.specs.Prelude.{All, nat_le, unwrap_or}
 use Rattle.std.specs.List.{AllByRecursion, flat_map}
 use Rattle.std.proofs.lemmas.Bool.{le-leb}
 use Rattle.std.proofs.lemmas.List.{length-append, map-append}
-use Rattle.std.proofs.lemmas.List.Elements.{All-head, All-tail}
+use Rattle.std.proofs.lemmas.List.Elements.{All-from_recursion, All-head, All-tail}
 use Rattle.keel_base.specs.declared.limits.TheConstants.{LAST_NUMBER}
 use Rattle.keel_base.specs.declared.op.Op.{Op}
 use Rattle.keel_base.specs.declared.row.Row.{Row}
@@ -16,7 +16,7 @@ use Rattle.keel_edit.specs.Spelling.{IsAdded, IsEdit}
 use Rattle.keel_machine.specs.Reads.{segment_rows}
 use Rattle.keel_machine.specs.Resuming.{made_in}
 use Rattle.keel_machine.specs.States.{Story, entries_in, point_of}
-use Rattle.keel_resume.specs.Drafts.{added_of, batch_rows, count_ops, numbered, with_new}
+use Rattle.keel_draft.specs.Drafts.{added_of, batch_rows, count_ops, numbered, with_new}
 use Rattle.keel_resume.specs.Plans.{Job, edit_of}
 use Rattle.keel_version.specs.Tables.{AreLevels, Contents, are_apart, nothing}
 use Rattle.keel_version.proofs.Members.{whole_edit}
@@ -85,10 +85,10 @@ module _ (levels : List TableFile) (segments : List (List (List Op))) (in_tables
 
   -- ---- the edit
 
-  entries_are : entries_in (levels_behind levels job) ≡ entries_in front ++ (entries_in new ++ entries_in back)
+  pub entries_are : entries_in (levels_behind levels job) ≡ entries_in front ++ (entries_in new ++ entries_in back)
   entries_are = ap entries_in behind_are ∙ entries_three front new back
 
-  old_entries : entries_in front ++ entries_in back ≡ entries_in levels
+  pub old_entries : entries_in front ++ entries_in back ≡ entries_in levels
   old_entries = sym (map-append (λ (t : TableFile). t.entry) front back) ∙ ap entries_in old_are
 
   added_are : (edit_of job next_file).added ≡ entries_in (levels_behind levels job)
@@ -97,7 +97,7 @@ module _ (levels : List TableFile) (segments : List (List (List Op))) (in_tables
       ∙ ap (λ (come : List Added). with_new (λ (t : Added). t.level) (entries_in levels) come) (sym (new_entries job.progress.tables job.drafts))
       ∙ sym (entries_with_new levels new)
 
-  all_added : AllByRecursion IsAdded (entries_in (levels_behind levels job))
+  pub all_added : AllByRecursion IsAdded (entries_in (levels_behind levels job))
   all_added =
       subst (AllByRecursion IsAdded) (sym entries_are)
       (insert_all IsAdded (entries_in front) (entries_in new) (entries_in back)
@@ -129,7 +129,7 @@ module _ (levels : List TableFile) (segments : List (List (List Op))) (in_tables
         new_few job.progress.tables job.drafts,
       )
 
-  order : AreLevels (entries_in (levels_behind levels job))
+  pub order : AreLevels (entries_in (levels_behind levels job))
   order = record {
     apart = apart;
     levels = test_all (λ (t : Added). nat_le t.level 3) (entries_in (levels_behind levels job))
@@ -221,6 +221,8 @@ module _ (levels : List TableFile) (segments : List (List (List Op))) (in_tables
     version = version;
     opens = each (IsFit job.last_seq) (λ (t : TableFile). open_sized t.entry.size t.bytes ≡ Ok t.file) new (λ t is. is.opens) fit;
     say = say;
+    order = order;
+    each = All-from_recursion IsAdded (entries_in (levels_behind levels job)) all_added;
   }
 
 pub roll_gives : RollGives

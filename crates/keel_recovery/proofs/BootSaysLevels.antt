@@ -8,7 +8,7 @@ use Rattle.std.proofs.lemmas.List.{map-append}
 use Rattle.keel_directory.specs.TableFiles.{TableFile}
 use Rattle.keel_edit.specs.declared.edit.Added.{Added}
 use Rattle.keel_machine.specs.States.{entries_in}
-use Rattle.keel_resume.specs.Drafts.{with_new}
+use Rattle.keel_draft.specs.Drafts.{with_new}
 use Rattle.keel_version.specs.Tables.{are_apart, goes_before}
 use Rattle.keel_recovery.proofs.BootSaysRows.{back_of, both, each, front_of}
 

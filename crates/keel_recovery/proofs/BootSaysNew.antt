@@ -13,7 +13,7 @@ use Rattle.keel_directory.specs.TableFiles.{TableFile, table_rows}
 use Rattle.keel_edit.specs.declared.edit.Added.{Added}
 use Rattle.keel_machine.specs.Reads.{segment_rows}
 use Rattle.keel_machine.specs.States.{entries_in}
-use Rattle.keel_resume.specs.Drafts.{AreDraftsOf, Draft, added_of, batch_rows, count_ops, file_of, numbered, rows_in}
+use Rattle.keel_draft.specs.Drafts.{AreDraftsOf, Draft, added_of, batch_rows, count_ops, file_of, numbered, rows_in}
 use Rattle.keel_version.specs.Tables.{are_apart, goes_before}
 use Rattle.keel_recovery.specs.BootCalls.{AreOver, AreRising, joined}
 use Rattle.keel_recovery.proofs.BootSaysLevels.{IsNewOver, new_behind, test_all}

@@ -9,7 +9,7 @@ use Rattle.keel_base.specs.Rows.{newer, newest, op_row, op_rows}
 use Rattle.keel_base.proofs.KeyOrder.{eq_itself, eq_same, lt_differs, lt_then_lt}
 use Rattle.keel_base.proofs.Newest.{newest_behind, newest_here, newest_of_both, newer_is_other, newer_is_row}
 use Rattle.keel_batch.specs.Batches.{AreBatches}
-use Rattle.keel_resume.specs.Drafts.{AreNewestOf, batch_rows, count_ops}
+use Rattle.keel_draft.specs.Drafts.{AreNewestOf, batch_rows, count_ops}
 use Rattle.keel_table.specs.Opening.{row_of}
 use Rattle.keel_table.specs.Spelling.{Ascend}
 

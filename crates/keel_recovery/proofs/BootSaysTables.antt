@@ -16,7 +16,7 @@ use Rattle.keel_directory.specs.Sound.{IsAsSaid, first_key}
 use Rattle.keel_directory.specs.Sound as sound
 use Rattle.keel_directory.specs.TableFiles.{TableFile, block_rows, open_sized, rows_found, table_rows}
 use Rattle.keel_edit.specs.Spelling.{IsAdded}
-use Rattle.keel_resume.specs.Drafts.{AreNewestOf, Draft, IsDraftOf, added_of, batch_rows, bytes_in, count_ops, file_of, rows_in}
+use Rattle.keel_draft.specs.Drafts.{AreNewestOf, Draft, IsDraftOf, added_of, batch_rows, bytes_in, count_ops, file_of, rows_in}
 use Rattle.keel_table.proofs.Opens.{tables_open_law}
 use Rattle.keel_table.proofs.Reread.{over_last}
 use Rattle.keel_table.proofs.Sizes.{tables_are_small}
@@ -95,7 +95,7 @@ module _ (seq number : ℕ) (batches : List (List Op)) (draft : Draft) (is : IsD
   pub draft_rows : table_rows (file_of number draft) ≡ rows_in draft
   draft_rows = whole_rows (bytes_in draft) [] (entries_from 0 draft.blocks) draft.blocks opens_as.whole
 
-  draft_opens : open_sized (length (bytes_in draft)) (bytes_in draft) ≡ Ok (file_of number draft).file
+  pub draft_opens : open_sized (length (bytes_in draft)) (bytes_in draft) ≡ Ok (file_of number draft).file
   draft_opens = size_is (length (bytes_in draft)) (bytes_in draft) refl ∙ opens_as.opens
 
   draft_within : AllByRecursion (IsNumbered draft.first draft.last) (table_rows (file_of number draft))

@@ -21,7 +21,7 @@ use Rattle.keel_disk.proofs.Directories.{find-linked, operated_all-append}
 use Rattle.keel_disk.proofs.Operating.{cut-append, file_at-created, is_below}
 use Rattle.keel_disk.proofs.Steadily.{present_stays, steady_stays}
 use Rattle.keel_machine.specs.Outside.{as_answer}
-use Rattle.keel_resume.specs.Drafts.{Draft, bytes_in}
+use Rattle.keel_draft.specs.Drafts.{Draft, bytes_in}
 use Rattle.keel_recovery.specs.BootCalls.{IsMade, IsBeingMade, IsEmptyLog, IsFixed, AreMade, AreFixed}
 use Rattle.keel_recovery.proofs.BootFrame.{created_found}
 
@@ -34,7 +34,7 @@ module _ (state after : Disk) (change : Change) (answer : Result (Unit {0}) Disk
   pub made_stays : (bound : ℕ) (name : FileName) (bytes : List ℕ) → IsApart name change → IsMade bound name bytes state → IsMade bound name bytes after
   made_stays bound name bytes apart is =
       let stays = present_stays name is.file change answer state after one apart is.present step in
-      record { file = is.file; present = stays.0; newer = is.newer; held = subst (λ (f : File). IsHeld f bytes) (sym stays.1) is.held }
+      record { file = is.file; present = stays.0; newer = is.newer; held = subst (λ (f : File). IsHeld f bytes) (sym stays.1) is.held; clean = ap (λ (f : File). f.spoilt) stays.1 ∙ is.clean }
 
   pub fixed_stays : (bound : ℕ) (name : FileName) (bytes : List ℕ) → IsApart name change → IsFixed bound name bytes state → IsFixed bound name bytes after
   fixed_stays bound name bytes apart is =
@@ -71,18 +71,18 @@ create_leaves name state after (Some fault) step = create_failed name state afte
 pub create_done : (name : FileName) (state after : Disk) → DiskStep state (Create name) (as_answer None) after → after ≡ created name state
 create_done name state after step = sym cc
 
-new_at : (state : Disk) → file_at (length state.files) (state.files ++ new_file ∷ []) ≡ new_file
+pub new_at : (state : Disk) → file_at (length state.files) (state.files ++ new_file ∷ []) ≡ new_file
 new_at state = file_at-created (length state.files) state.files ∙ get_or-eq_default state.files new_file (omega arith)
 
 -- its name is there
-new_present : (name : FileName) (state : Disk) → CutsExist state → IsPresent name (length state.files) (created name state)
+pub new_present : (name : FileName) (state : Disk) → CutsExist state → IsPresent name (length state.files) (created name state)
 new_present name state cuts = record {
   named = ap (find name) (operated_all-append state.waiting (Link name (length state.files) ∷ []) state.firm) ∙ find-linked name (length state.files) (directory_read state);
   not_cut = cut-append (length state.files) state.waiting (Link name (length state.files) ∷ []) (cuts (length state.files) (omega arith)) refl;
 }
 
 -- no directory had a file of its number
-number_new : (state : Disk) → IsOneToOne state → (count : ℕ) (name : FileName) → file_behind count name state ≡ Some (length state.files) → ⊥
+pub number_new : (state : Disk) → IsOneToOne state → (count : ℕ) (name : FileName) → file_behind count name state ≡ Some (length state.files) → ⊥
 number_new state one count name is = absurd (omega (arith, is_below (length state.files) name (length state.files) (settled_through count state).firm (one count) is))
 
 -- a file that was made, and is no log, is empty and no log has it

@@ -19,7 +19,7 @@ use Rattle.keel_machine.specs.Outside.{as_answer}
 use Rattle.keel_machine.specs.Resuming.{act_done, act_failed, batches_in, one_more}
 use Rattle.keel_machine.specs.States.{State, Resumption, Segment, entries_in}
 use Rattle.keel_open.specs.NextFiles.{number_in}
-use Rattle.keel_resume.specs.Drafts.{Draft, AreDraftsOf, bytes_in, pieces_in}
+use Rattle.keel_draft.specs.Drafts.{Draft, AreDraftsOf, bytes_in, pieces_in}
 use Rattle.keel_resume.specs.Plans.{Act, MakeTable, AddPiece, SyncTable, failure_of, latest, left_of, moved, plan_of}
 use Rattle.keel_recovery.specs.Booting.{below, IsOldTable}
 use Rattle.keel_recovery.specs.BootCalls.{AreMade, AreRising, AtTables, BootKept, HasMadeSo, InTable, IsMade, IsBeingMade}
@@ -93,7 +93,7 @@ module _ (s : State) (running : Resumption) (state after : Disk) (one : IsOneToO
     pub make_table : (later : List Act) (next_act : Act) (behind : List Act) → left_of running.job ≡ MakeTable ∷ later → later ≡ next_act ∷ behind → later ≡ map AddPiece (pieces_in draft) ++ SyncTable ∷ plan_of rest
         → DiskStep state (Create (Table next)) (as_answer None) after → BootKept (act_done MakeTable running (next_act ∷ behind) s) after
     make_table later next_act behind left some later_is step =
-        goes_on s state after kept at.unmoved (next + 1) (one_more MakeTable next running) (omega arith) (begins_on None step) (record {
+        goes_on s state after kept at.unmoved (next + 1) _ (one_more MakeTable next running) (omega arith) (begins_on None step) (record {
           tables = record { are = made.tables.are; few = made.tables.few };
           live_is = made.live_is;
           last_is = made.last_is;
@@ -103,8 +103,8 @@ module _ (s : State) (running : Resumption) (state after : Disk) (one : IsOneToO
           stage = inr (inl (begun step later left later_is));
         })
 
-    pub make_table_failed : (fault : Fault) → DiskStep state (Create (Table next)) (as_answer (Some fault)) after → BootKept (act_failed MakeTable (failure_of MakeTable fault) s) after
-    make_table_failed fault step = is_over s state after kept at.unmoved (next + 1) (failure_of MakeTable fault) (omega arith) (begins_on (Some fault) step)
+    pub make_table_failed : (fault : Fault) → DiskStep state (Create (Table next)) (as_answer (Some fault)) after → BootKept (act_failed MakeTable running.job (failure_of MakeTable fault) s) after
+    make_table_failed fault step = is_over s state after kept at.unmoved (next + 1) _ (failure_of MakeTable fault) (omega arith) (begins_on (Some fault) step)
 
   -- ---- a piece is added
 
@@ -149,7 +149,7 @@ module _ (s : State) (running : Resumption) (state after : Disk) (one : IsOneToO
       pub add_piece : (later : List Act) (next_act : Act) (behind : List Act) → left_of running.job ≡ AddPiece piece ∷ later → later ≡ map AddPiece todo ++ SyncTable ∷ plan_of in_.rest
           → DiskStep state (Append name piece) (as_answer None) after → BootKept (act_done (AddPiece piece) running (next_act ∷ behind) s) after
       add_piece later next_act behind left later_is step =
-          goes_on s state after kept in_.unmoved next (one_more (AddPiece piece) next running) (omega arith) (adds_on None step) (record {
+          goes_on s state after kept in_.unmoved next _ (one_more (AddPiece piece) next running) (omega arith) (adds_on None step) (record {
             tables = record { are = made.tables.are; few = made.tables.few };
             live_is = made.live_is;
             last_is = made.last_is;
@@ -158,8 +158,8 @@ module _ (s : State) (running : Resumption) (state after : Disk) (one : IsOneToO
             stage = inr (inl (added step later left later_is));
           })
 
-      pub add_piece_failed : (fault : Fault) → DiskStep state (Append name piece) (as_answer (Some fault)) after → BootKept (act_failed (AddPiece piece) (failure_of (AddPiece piece) fault) s) after
-      add_piece_failed fault step = is_over s state after kept in_.unmoved next (failure_of (AddPiece piece) fault) (omega arith) (adds_on (Some fault) step)
+      pub add_piece_failed : (fault : Fault) → DiskStep state (Append name piece) (as_answer (Some fault)) after → BootKept (act_failed (AddPiece piece) running.job (failure_of (AddPiece piece) fault) s) after
+      add_piece_failed fault step = is_over s state after kept in_.unmoved next _ (failure_of (AddPiece piece) fault) (omega arith) (adds_on (Some fault) step)
 
     -- ---- the table gets firm
 
@@ -186,7 +186,7 @@ module _ (s : State) (running : Resumption) (state after : Disk) (one : IsOneToO
       pub sync_table : (later : List Act) (next_act : Act) (behind : List Act) → left_of running.job ≡ SyncTable ∷ later → later ≡ plan_of in_.rest
           → DiskStep state (Sync name) (as_answer None) after → BootKept (act_done SyncTable running (next_act ∷ behind) s) after
       sync_table later next_act behind left later_is step =
-          goes_on s state after kept in_.unmoved next (one_more SyncTable next running) (omega arith) (syncs_on None step) (record {
+          goes_on s state after kept in_.unmoved next _ (one_more SyncTable next running) (omega arith) (syncs_on None step) (record {
             tables = record { are = made.tables.are; few = made.tables.few };
             live_is = made.live_is;
             last_is = made.last_is;
@@ -195,5 +195,5 @@ module _ (s : State) (running : Resumption) (state after : Disk) (one : IsOneToO
             stage = inl (ended step later left later_is);
           })
 
-      pub sync_table_failed : (fault : Fault) → DiskStep state (Sync name) (as_answer (Some fault)) after → BootKept (act_failed SyncTable (failure_of SyncTable fault) s) after
-      sync_table_failed fault step = is_over s state after kept in_.unmoved next (failure_of SyncTable fault) (omega arith) (syncs_on (Some fault) step)
+      pub sync_table_failed : (fault : Fault) → DiskStep state (Sync name) (as_answer (Some fault)) after → BootKept (act_failed SyncTable running.job (failure_of SyncTable fault) s) after
+      sync_table_failed fault step = is_over s state after kept in_.unmoved next _ (failure_of SyncTable fault) (omega arith) (syncs_on (Some fault) step)

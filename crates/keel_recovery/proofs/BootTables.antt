@@ -1,23 +1,22 @@
 -- The calls of a boot that make its tables.
-use Rattle.std.proofs.Common.{◌≡◌, ℕ, ◌+◌, ◌≤◌, ◌<◌, true, false, List, [], ◌∷◌, ◌++◌, length, map, refl, sym, ap, subst, ◌∙◌, arith, append_assoc, append-nil, eqb, eqb-true}
+use Rattle.std.proofs.Common.{◌≡◌, ℕ, ◌+◌, ◌≤◌, ◌<◌, true, false, List, [], ◌∷◌, ◌++◌, length, map, Some, refl, sym, ap, subst, ◌∙◌, arith, append_assoc, append-nil, eqb, eqb-true}
 use Rattle.std.specs.List.{AllByRecursion, flat_map}
 use Rattle.std.proofs.Math.Seq.{take-length}
 use Rattle.std.proofs.Common.{get_or-set_same}
-use Rattle.keel_disk.specs.declared.state.Operation.{Operation}
 use Rattle.keel_disk.specs.State.{directory_read}
 use Rattle.keel_disk.proofs.Operating.{is_below}
+use Rattle.keel_disk.proofs.Steadily.{read_own}
 use Rattle.keel_base.specs.declared.file_name.FileName.{FileName}
 use Rattle.keel_base.specs.declared.file_name.FileName.TheVariants.{Table}
 use Rattle.keel_base.specs.declared.row.Row.{Row}
 use Rattle.keel_base.specs.Name.{name_eq}
 use Rattle.keel_disk.specs.declared.state.File.{File}
-use Rattle.keel_disk.specs.Directory.{operated_all}
-use Rattle.keel_disk.specs.State.{State as Disk, file_at, new_file}
+use Rattle.keel_disk.specs.State.{State as Disk, file_at, file_of, new_file}
 use Rattle.keel_disk.specs.Step.{extended, synced, with_file}
 use Rattle.keel_disk.specs.Steady.{IsGoing, IsHeld}
-use Rattle.keel_disk.specs.Sound.{AreOwn, IsOneToOne}
+use Rattle.keel_disk.specs.Sound.{IsOneToOne}
 use Rattle.keel_edit.specs.declared.edit.Added.{Added}
-use Rattle.keel_resume.specs.Drafts.{Draft, bytes_in, pieces_in}
+use Rattle.keel_draft.specs.Drafts.{Draft, bytes_in, pieces_in}
 use Rattle.keel_resume.specs.Plans.{latest}
 use Rattle.keel_table.specs.Spelling.{block_bytes, blocks_bytes}
 use Rattle.keel_recovery.specs.BootCalls.{AreRising, AreOver, IsMade, IsBeingMade}
@@ -62,7 +61,7 @@ latest_last (number ∷ next ∷ numbers) last = latest_last (next ∷ numbers) 
 
 -- ---- names
 
-table_differs : (n m : ℕ) → n < m → name_eq (Table m) (Table n) ≡ false
+pub table_differs : (n m : ℕ) → n < m → name_eq (Table m) (Table n) ≡ false
 table_differs n m less =
     elim (eqb m n) as (λ b. eqb m n ≡ b → b ≡ false) [
       | true ↦ λ same. absurd (omega (arith, less, eqb-true m n same))
@@ -87,21 +86,24 @@ blocks_joined (block ∷ blocks) end = ap (λ l. block_bytes block ++ l) (blocks
 pub pieces_joined : (draft : Draft) → flat_map (λ (p : List ℕ). p) (pieces_in draft) ≡ bytes_in draft
 pieces_joined draft = blocks_joined draft.blocks _
 
+-- the file of a name that is there is changed
+pub named_changed : (name : FileName) (file : ℕ) (change : File → File) (state : Disk) → IsOneToOne state → file_of name state ≡ Some file
+    → file_at file (with_file file change state).files ≡ change (file_at file state.files)
+named_changed name file change state one named =
+    get_or-set_same state.files file (change (file_at file state.files)) new_file (is_below (length state.files) name file (directory_read state) (read_own state one) named)
+
 synced_clean : (file : File) → file.spoilt ≡ false → synced file ≡ record file { firm = length file.meant }
 synced_clean file clean = rw clean refl
 
-held_synced : (file : File) (bytes : List ℕ) → file.meant ≡ bytes → IsGoing file → IsHeld (synced file) bytes
+pub held_synced : (file : File) (bytes : List ℕ) → file.meant ≡ bytes → IsGoing file → IsHeld (synced file) bytes
 held_synced file bytes meant going =
     subst (λ (f : File). IsHeld f bytes) (sym (synced_clean file going.not_spoilt)) (record { meant = meant; firm = ap length meant; read = going.read ∙ meant })
 
 -- ---- the file that is being made
 
 module _ (bound : ℕ) (name : FileName) (given : List ℕ) (state : Disk) (one : IsOneToOne state) (being : IsBeingMade bound name given state) where
-  being_there : being.file < length state.files
-  being_there = is_below (length state.files) name being.file (directory_read state) (subst (λ (ops : List Operation). AreOwn (length state.files) (operated_all ops state.firm)) (take-length state.waiting) (one (length state.waiting))) being.present.named
-
   at_changed : (change : File → File) → file_at being.file (with_file being.file change state).files ≡ change (file_at being.file state.files)
-  at_changed change = get_or-set_same state.files being.file (change (file_at being.file state.files)) new_file being_there
+  at_changed change = named_changed name being.file change state one being.present.named
 
   -- it has further bytes
   pub being_more : (bytes : List ℕ) (after : Disk) → after ≡ with_file being.file (extended bytes (length bytes)) state → IsBeingMade bound name (given ++ bytes) after
@@ -124,4 +126,5 @@ module _ (bound : ℕ) (name : FileName) (given : List ℕ) (state : Disk) (one 
     present = record { named = being.present.named; not_cut = being.present.not_cut };
     newer = being.newer;
     held = subst (λ (f : File). IsHeld f bytes) (sym (at_changed synced)) (held_synced (file_at being.file state.files) bytes (being.meant ∙ all) being.going);
+    clean = ap (λ (f : File). f.spoilt) (at_changed synced ∙ synced_clean (file_at being.file state.files) being.going.not_spoilt) ∙ being.going.not_spoilt;
   })

@@ -16,7 +16,7 @@ use Rattle.keel_machine.specs.Resuming.{act_done, act_failed}
 use Rattle.keel_machine.specs.States.{State, Resumption}
 use Rattle.keel_manifest.specs.declared.roll.RollCall.{RollCall}
 use Rattle.keel_manifest.specs.declared.roll.RollCall.TheVariants.{MakeManifest, AppendEdit, SyncManifest, MakeTemporary, AppendName, SyncTemporary, Rename, SyncDirectory}
-use Rattle.keel_resume.specs.Drafts.{Draft, pieces_in}
+use Rattle.keel_draft.specs.Drafts.{Draft, pieces_in}
 use Rattle.keel_resume.specs.Plans.{Job, Act, MakeTable, AddPiece, SyncTable, MakeLog, SyncLogName, Rolls, change_of, draws, edit_of, failure_of, latest, left_of, plan_of, roll_acts}
 use Rattle.keel_recovery.specs.BootCalls.{AreAllFixed, AtLogName, AtTables, BootKept, HasMadeSo, InTable, RollMade}
 use Rattle.keel_recovery.specs.BootRoll.{Gives}
@@ -94,7 +94,7 @@ module _ (s : State) (running : Resumption) (state after : Disk) (one : IsOneToO
 
   abbrev Leaves : Act → List Act → Option Fault → Type 0
   Leaves act later None = GoesOn later (act_done act running later s) after
-  Leaves act later (Some fault) = BootKept (act_failed act (failure_of act fault) s) after
+  Leaves act later (Some fault) = BootKept (act_failed act running.job (failure_of act fault) s) after
 
   -- whatever is answered to a call
   abbrev Turn : Act → List Act → Type 0
@@ -210,8 +210,8 @@ module _ (s : State) (running : Resumption) (state after : Disk) (one : IsOneToO
         (subst (λ (c : Change). DiskStep state c (as_answer (Some fault)) after) (at_manifest Rename m is (λ n. RenameFile (Temp n) Current) (λ o. refl)) step)
 
     last_turn : RollMade kept.bound running.job next state (SyncDirectory ∷ []) → RollTurn SyncDirectory
-    last_turn (m, is, held, current) left fits None step = clears s running state after one kept made parts (gives parts) m held current step
-    last_turn (m, is, held, current) left fits (Some fault) step = last_failed s state after one kept m current fault step
+    last_turn (m, is, held, current) left fits None step = clears s running state after one kept made parts (gives parts) m held current is step
+    last_turn (m, is, held, current) left fits (Some fault) step = last_failed s state after one kept m current running.job fault step
 
     roll_turn : (asked : RollCall) → RollMade kept.bound running.job next state (asked ∷ []) → RollTurn asked
     roll_turn MakeManifest so = manifest_turn so

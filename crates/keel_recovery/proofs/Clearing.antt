@@ -8,13 +8,15 @@ use Rattle.keel_disk.specs.Steady.{CutsExist}
 use Rattle.keel_disk.specs.Seen.{Seen}
 use Rattle.keel_disk.specs.Sound.{IsOneToOne}
 use Rattle.keel_group.specs.Queue.{Ticketed}
+use Rattle.keel_flush.specs.Plans.{Job as FlushJob}
 use Rattle.keel_machine.specs.Admission.{last_seq}
 use Rattle.keel_machine.specs.Resuming.{cleared, cleared_story}
 use Rattle.keel_machine.specs.States.{State, Story, point_of, SegmentLog, Group, new_log, with_device}
 use Rattle.keel_batch.specs.Batches.{AreBatches}
 use Rattle.keel_resume.specs.Plans.{Job}
 use Rattle.keel_recovery.specs.BootTurns.{IsCleared, cleared_log}
-use Rattle.keel_recovery.specs.Machine.{IsKept, HoldsBy, IsAt, AreOnTheirWay}
+use Rattle.keel_recovery.specs.Flushes.{HasFlush}
+use Rattle.keel_recovery.specs.Machine.{IsKept, HoldsBy, IsAt, AreOnTheirWay, WhileItGoes}
 
 on_way : (story : Story) (waiting : List Ticketed) (running : Option Group) → story.limbo ≡ [] → waiting ≡ [] → running ≡ None → AreOnTheirWay story running waiting
 on_way story waiting running none none_wait none_run =
@@ -22,9 +24,9 @@ on_way story waiting running none none_wait none_run =
     (subst (λ (r : Option Group). AreOnTheirWay story r []) (sym none_run) (subst (λ (l : List (List Op)). AreBatches (point_of story).seq (l ++ [])) (sym none) tt))
 
 -- what is cleared is what a store that writes keeps
-pub clear_kept : (job : Job) (s : State) (device : Seen) (state : Disk) → IsOneToOne state → CutsExist state → 1 ≤ s.numbers.next_file → s.writing.waiting ≡ [] → s.jobs.write.running ≡ None
+pub clear_kept : (job : Job) (s : State) (device : Seen) (state : Disk) → IsOneToOne state → CutsExist state → 1 ≤ s.numbers.next_file → s.writing.waiting ≡ [] → s.jobs.write.running ≡ None → s.jobs.flush.running ≡ None
     → IsCleared (cleared job s) state → IsKept state (with_device device (cleared job s))
-clear_kept job s device state one cuts numbered none_waits none_runs h = record {
+clear_kept job s device state one cuts numbered none_waits none_runs none_flush h = record {
   one_to_one = one;
   cuts = cuts;
   numbered = numbered;
@@ -32,12 +34,16 @@ clear_kept job s device state one cuts numbered none_waits none_runs h = record 
   stored = by (option_map new_log job.progress.log) s.writing.waiting s.jobs.write.running h.log_is none_waits none_runs;
 }
   where
+    goes_in : (running : Option Group) {goes : Type 0} → goes → WhileItGoes running None goes
+    goes_in None h = h
+    goes_in (Some group) h = h
+
     by : (o : Option SegmentLog) (waiting : List Ticketed) (running : Option Group) → o ≡ Some (new_log h.log) → waiting ≡ [] → running ≡ None
-        → HoldsBy o state (cleared job s).levels (cleared_story s.story) [] [] waiting None running s.numbers.next_file (last_seq s)
+        → HoldsBy o state (cleared job s).levels (cleared_story s.story) [] [] waiting None running s.numbers.next_file (last_seq s) s.jobs.flush.running s.numbers.manifest
     by o waiting running log none none_too =
-        subst (λ (l : Option SegmentLog). HoldsBy l state (cleared job s).levels (cleared_story s.story) [] [] waiting None running s.numbers.next_file (last_seq s)) (sym log)
+        subst (λ (l : Option SegmentLog). HoldsBy l state (cleared job s).levels (cleared_story s.story) [] [] waiting None running s.numbers.next_file (last_seq s) s.jobs.flush.running s.numbers.manifest) (sym log)
         (record {
-          ways = h.way ∷ [];
+          way = h.way;
           place = length s.story.log;
           full = [];
           are_full = tt;
@@ -47,7 +53,8 @@ clear_kept job s device state one cuts numbered none_waits none_runs h = record 
           keeps = h.keeps;
           reach = h.reach;
           tables_to = ap (λ (l : List (List Op)). (fold_batches s.story.start l).seq) (ap (take (length s.story.log)) (append-nil s.story.log) ∙ take_all (length s.story.log) s.story.log (omega arith));
-          order = (
+          flushes = subst (λ (flush : Option FlushJob). HasFlush h.way (cleared job s).levels (last_seq s) (cleared_log h.log (cleared job s) ∷ []) None flush s.numbers.next_file s.numbers.manifest state) (sym none_flush) h.flushes;
+          order = goes_in running (
             h.grows,
             subst (λ (r : Option Group). IsAt state (cleared_story s.story) s.numbers.next_file (cleared_log h.log (cleared job s)) r) (sym none_too) refl,
             on_way (cleared_story s.story) waiting running refl none none_too,

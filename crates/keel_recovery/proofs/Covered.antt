@@ -92,6 +92,7 @@ same_boot state s device outcomes k = record {
   none_active = k.none_active;
   none_waits = k.none_waits;
   no_group = k.no_group;
+  no_flush = k.no_flush;
   numbered = k.numbered;
   bare = k.bare;
 }
@@ -111,6 +112,12 @@ same_keeps s device outcomes same h =
 
 pub as_it_is : (s : State) (device : Seen) → device.told ≡ s.device.told → IsCovered s → IsCovered (with_device device s)
 as_it_is s device same h = same_keeps s device s.writing.outcomes same h
+
+-- another device is told, of which no less is kept
+pub told_keeps : (s : State) (device : Seen) → ((f : Footing) → OpenBy f s.device.told s → OpenBy f device.told s) → IsCovered s → IsCovered (with_device device s)
+told_keeps s device on h =
+    open_covered s (with_device device s) refl
+    (kept_by s.footing device.told s (with_device device s) (λ state kept. same_kept s.mode.phase (is_left s.mode.left) state s device s.writing.outcomes kept) (on s.footing (covered_by s h)))
 
 -- ---- calls that change it
 

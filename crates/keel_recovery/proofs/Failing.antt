@@ -1,6 +1,6 @@
 -- Each call of a group that fails keeps what the store's logs hold.
 use Rattle.std.specs.Prelude.{is_some}
-use Rattle.std.proofs.Common.{◌≡◌, ℕ, ◌+◌, true, List, [], ◌∷◌, ◌++◌, Option, Some, None, sym, ap, subst, ◌∙◌}
+use Rattle.std.proofs.Common.{◌≡◌, ℕ, ◌+◌, ◌^◌, ◌<◌, true, List, [], ◌∷◌, ◌++◌, Option, Some, None, refl, sym, ap, subst, ◌∙◌, arith}
 use Rattle.std.proofs.lemmas.List.{append_assoc}
 use Rattle.keel_base.specs.Points.{Point}
 use Rattle.keel_base.specs.declared.failure.Failure.{Failure}
@@ -21,13 +21,14 @@ use Rattle.keel_machine.specs.States.{State, Story, SegmentLog, Segment, Group, 
 use Rattle.keel_recovery.specs.Calls.{point_handed, grown}
 use Rattle.keel_recovery.specs.Machine.{ops_waiting, AreOnTheirWay, HasLog}
 use Rattle.keel_recovery.specs.Roots.{point_at}
+use Rattle.keel_recovery.proofs.FlushKept.{flush_on, flush_stops, longer_last, longer_same}
 use Rattle.keel_recovery.proofs.Framing.{create_keeps}
 use Rattle.keel_recovery.proofs.Following.{point_stays}
 use Rattle.keel_recovery.proofs.Growing.{log_append_keeps, log_sync_keeps}
 use Rattle.keel_recovery.proofs.Joining.{sync_dir_keeps}
 use Rattle.keel_recovery.proofs.Ordering.{went_wrong, first_limits, none_handed, stopped, whole_push}
 
-module _ (s : State) (group : Group) (log : SegmentLog) (before after : Disk) (one : IsOneToOne before) (cuts : CutsExist before) where
+module _ (s : State) (group : Group) (log : SegmentLog) (before after : Disk) (one : IsOneToOne before) (cuts : CutsExist before) (halts : Option Failure) where
   abbrev story : Story
   story = s.story
 
@@ -59,7 +60,7 @@ module _ (s : State) (group : Group) (log : SegmentLog) (before after : Disk) (o
   running drawn = Some (group_in own_batches made drawn)
 
   abbrev LogBefore : Option ℕ → Type 0
-  LogBefore drawn = HasLog log before s.levels story immutable batches waiting None (running drawn) next_file s.numbers.in_tables
+  LogBefore drawn = HasLog log before s.levels story immutable batches waiting halts (running drawn) next_file s.numbers.in_tables s.jobs.flush.running s.numbers.manifest
 
   -- the bytes of the group's records
   abbrev added : List ℕ
@@ -83,36 +84,40 @@ module _ (s : State) (group : Group) (log : SegmentLog) (before after : Disk) (o
   tables_handed h = ap (λ (p : Point). p.seq) (point_stays h.place story (ops_of own_batches) h.keeps.stored.place_within) ∙ h.tables_to
 
   module _ (fault : Fault) (stops : Option Failure) (severe : is_some stops ≡ true) where
-    pub make_failed : (h : LogBefore None) → DiskStep before (Create (Log next_file)) (went_wrong fault) after
-        → HasLog log after s.levels story immutable batches waiting stops None (next_file + 1) s.numbers.in_tables
-    make_failed h step = record {
-      ways = h.ways;
+    pub make_failed : next_file < 2 ^ 56 → (h : LogBefore None) → DiskStep before (Create (Log next_file)) (went_wrong fault) after
+        → HasLog log after s.levels story immutable batches waiting stops None (next_file + 1) s.numbers.in_tables s.jobs.flush.running s.numbers.manifest
+    make_failed below_end h step = record {
+      way = h.way;
       place = h.place;
       full = h.full;
       are_full = h.are_full;
       own = h.own;
       number_is = h.number_is;
       batches_are = h.batches_are;
-      keeps = create_keeps h.ways h.place next_file (h.full ++ h.own ∷ []) s.levels story (went_wrong fault) before after one h.keeps step;
+      keeps = create_keeps (h.way ∷ []) h.place next_file (h.full ++ h.own ∷ []) s.levels story (went_wrong fault) before after one h.keeps step;
       reach = h.reach;
       tables_to = h.tables_to;
+      flushes = flush_stops h.way s.levels s.numbers.in_tables (h.full ++ h.own ∷ []) halts stops s.jobs.flush.running (next_file + 1) s.numbers.manifest after severe
+          (flush_on (Create (Log next_file)) (went_wrong fault) before after one tt tt step h.way s.numbers.manifest s.jobs.flush.running halts s.levels s.numbers.in_tables (h.full ++ h.own ∷ []) (h.full ++ h.own ∷ []) next_file (next_file + 1) (longer_same (h.full ++ h.own ∷ [])) (omega arith) (omega (arith, below_end)) h.flushes);
       order = stopped stops _ severe;
     }
 
     pub sync_dir_failed : (number : ℕ) (h : LogBefore (Some number)) → DiskStep before SyncDir (went_wrong fault) after
-        → HasLog log after s.levels story immutable batches waiting stops None next_file s.numbers.in_tables
+        → HasLog log after s.levels story immutable batches waiting stops None next_file s.numbers.in_tables s.jobs.flush.running s.numbers.manifest
     sync_dir_failed number h step = record {
-      ways = h.ways;
+      way = h.way;
       place = h.place;
       full = h.full;
       are_full = h.are_full;
       own = h.own;
       number_is = h.number_is;
       batches_are = h.batches_are;
-      keeps = sync_dir_keeps h.ways h.place next_file number h.full h.own s.levels story (went_wrong fault) before after one h.keeps h.reach h.order.1.1.above h.order.1.1.new
+      keeps = sync_dir_keeps (h.way ∷ []) h.place next_file number h.full h.own s.levels story (went_wrong fault) before after one h.keeps h.reach h.order.1.1.above h.order.1.1.new
           (whole_push h.full h.own before h.order.0.whole h.order.1.2) step;
       reach = h.reach;
       tables_to = h.tables_to;
+      flushes = flush_stops h.way s.levels s.numbers.in_tables (h.full ++ h.own ∷ []) halts stops s.jobs.flush.running next_file s.numbers.manifest after severe
+          (flush_on SyncDir (went_wrong fault) before after one tt tt step h.way s.numbers.manifest s.jobs.flush.running halts s.levels s.numbers.in_tables (h.full ++ h.own ∷ []) (h.full ++ h.own ∷ []) next_file next_file (longer_same (h.full ++ h.own ∷ [])) (omega arith) h.flushes.most h.flushes);
       order = stopped stops _ severe;
     }
 
@@ -120,38 +125,42 @@ module _ (s : State) (group : Group) (log : SegmentLog) (before after : Disk) (o
     spoilt = record log { failed = true }
 
     pub add_failed : (h : LogBefore None) → story.limbo ≡ [] → DiskStep before (Append (Log log.number) added) (went_wrong fault) after
-        → HasLog spoilt after s.levels tried immutable batches waiting stops None next_file s.numbers.in_tables
+        → HasLog spoilt after s.levels tried immutable batches waiting stops None next_file s.numbers.in_tables s.jobs.flush.running s.numbers.manifest
     add_failed h none step =
         let there = subst (λ (n : ℕ). DiskStep before (Append (Log n) added) (went_wrong fault) after) (sym h.number_is) step in
         record {
-          ways = h.ways;
+          way = h.way;
           place = h.place;
           full = h.full;
           are_full = h.are_full;
           own = grown (ops_of own_batches) h.own;
           number_is = h.number_is;
           batches_are = grown_batches h;
-          keeps = log_append_keeps h.ways h.place next_file log.size h.full h.own (ops_of own_batches) added s.levels story (went_wrong fault) before after one h.keeps h.order.0
+          keeps = log_append_keeps (h.way ∷ []) h.place next_file log.size h.full h.own (ops_of own_batches) added s.levels story (went_wrong fault) before after one h.keeps h.order.0
               (limits_are none h.order.2) (bytes_are none) there;
           reach = h.reach;
           tables_to = tables_handed h;
+          flushes = flush_stops h.way s.levels s.numbers.in_tables (h.full ++ grown (ops_of own_batches) h.own ∷ []) halts stops s.jobs.flush.running next_file s.numbers.manifest after severe
+              (flush_on (Append (Log log.number) added) (went_wrong fault) before after one tt tt step h.way s.numbers.manifest s.jobs.flush.running halts s.levels s.numbers.in_tables (h.full ++ h.own ∷ []) (h.full ++ grown (ops_of own_batches) h.own ∷ []) next_file next_file (longer_last h.full h.own (grown (ops_of own_batches) h.own) refl) (omega arith) h.flushes.most h.flushes);
           order = stopped stops _ severe;
         }
 
     pub sync_failed : (h : LogBefore None) → DiskStep before (Sync (Log log.number)) (went_wrong fault) after
-        → HasLog spoilt after s.levels story immutable batches waiting stops None next_file s.numbers.in_tables
+        → HasLog spoilt after s.levels story immutable batches waiting stops None next_file s.numbers.in_tables s.jobs.flush.running s.numbers.manifest
     sync_failed h step =
         let there = subst (λ (n : ℕ). DiskStep before (Sync (Log n)) (went_wrong fault) after) (sym h.number_is) step in
         record {
-          ways = h.ways;
+          way = h.way;
           place = h.place;
           full = h.full;
           are_full = h.are_full;
           own = h.own;
           number_is = h.number_is;
           batches_are = h.batches_are;
-          keeps = log_sync_keeps h.ways h.place next_file log.size h.full h.own s.levels story (went_wrong fault) before after one h.keeps h.order.0 there;
+          keeps = log_sync_keeps (h.way ∷ []) h.place next_file log.size h.full h.own s.levels story (went_wrong fault) before after one h.keeps h.order.0 there;
           reach = h.reach;
           tables_to = h.tables_to;
+          flushes = flush_stops h.way s.levels s.numbers.in_tables (h.full ++ h.own ∷ []) halts stops s.jobs.flush.running next_file s.numbers.manifest after severe
+              (flush_on (Sync (Log log.number)) (went_wrong fault) before after one tt tt step h.way s.numbers.manifest s.jobs.flush.running halts s.levels s.numbers.in_tables (h.full ++ h.own ∷ []) (h.full ++ h.own ∷ []) next_file next_file (longer_same (h.full ++ h.own ∷ [])) (omega arith) h.flushes.most h.flushes);
           order = stopped stops _ severe;
         }

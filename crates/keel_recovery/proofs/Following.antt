@@ -7,7 +7,7 @@ use Rattle.keel_base.specs.declared.op.Op.{Op}
 use Rattle.keel_batch.specs.Batches.{AreBatches}
 use Rattle.keel_disk.specs.State.{State}
 use Rattle.keel_disk.proofs.Owning.{either_false}
-use Rattle.keel_resume.specs.Drafts.{count_ops}
+use Rattle.keel_draft.specs.Drafts.{count_ops}
 use Rattle.keel_machine.specs.States.{Story, handed, published}
 use Rattle.keel_recovery.specs.Calls.{point_handed, grown}
 use Rattle.keel_recovery.specs.Chains.{Chained, batches_of, FollowOn, is_chained, AreChained}

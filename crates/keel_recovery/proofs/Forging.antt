@@ -1,11 +1,11 @@
 -- The count of forged images over the machine's turns.
-use Rattle.std.proofs.Common.{◌≡◌, ◌⊎◌, inl, inr, ⊎_elim, ℕ, ◌-◌, ◌^◌, ◌<◌, ◌≤◌, true, List, [], ◌∷◌, Option, Some, None, Ok, Err, refl, sym, ap, subst, ◌∙◌, arith}
+use Rattle.std.proofs.Common.{◌≡◌, ◌⊎◌, inl, inr, ⊎_elim, ℕ, ◌-◌, ◌^◌, ◌<◌, ◌≤◌, Bool, true, false, List, [], ◌∷◌, Option, Some, None, Result, Ok, Err, refl, sym, ap, subst, ◌∙◌, arith}
 use Rattle.keel_base.specs.Counts.{raised}
 use Rattle.keel_base.specs.declared.failure.Fault.{Fault}
 use Rattle.keel_base.specs.declared.memory.OutOfMemory.{OutOfMemory}
 use Rattle.keel_base.specs.declared.op.Batch.{Batch}
 use Rattle.keel_disk.specs.declared.change.Change.{Change}
-use Rattle.keel_disk.specs.Told.{Told, Changes, Crashes}
+use Rattle.keel_disk.specs.Told.{Told, Arranges, Changes, Crashes}
 use Rattle.keel_disk.specs.declared.rule.Pick.{Pick}
 use Rattle.keel_disk.specs.Seen.{Seen}
 use Rattle.keel_machine.specs.declared.answers.Admit.{Admit}
@@ -16,15 +16,23 @@ use Rattle.keel_machine.specs.Admission.{admit_after}
 use Rattle.keel_machine.specs.Crash.{Leaves, CrashAnswers, crash_after}
 use Rattle.keel_machine.specs.Outside.{as_answer}
 use Rattle.keel_machine.specs.States.{State, Footing, Known, Unknown, Mode, Story, Resumption, Group, Act, with_device}
-use Rattle.keel_machine.specs.Turns.{Event, Opening, Admitting, Writing, Resuming, TakingOutcome, Getting, Scanning, Listing, Crashing, Finishing, Answers, after}
+use Rattle.keel_machine.specs.Turns.{Event, Opening, Admitting, Writing, Resuming, Flushing, TakingOutcome, Getting, Scanning, Listing, TellingError, TellingLevels, Arranging, Crashing, Finishing, Answers, after}
 use Rattle.keel_machine.specs.Writing.{ready, change_of}
 use Rattle.keel_machine.specs.WritingAfter.{WriteAnswers, MadeCall, call_done, call_failed, write_after}
 use Rattle.keel_recovery.specs.Machine.{forged_of, IsCounted, FootingStays}
 use Rattle.keel_machine.specs.declared.steps.ResumeStep.{ResumeStep}
 use Rattle.keel_machine.specs.declared.steps.ResumeStep.TheVariants as resume_step
+use Rattle.keel_machine.specs.declared.steps.JobStep.{JobStep}
+use Rattle.keel_machine.specs.declared.steps.JobStep.TheVariants as job_step
+use Rattle.keel_machine.specs.Flushing as flushing
+use Rattle.keel_machine.specs.Telling.{ArrangeAnswers}
 use Rattle.keel_machine.specs.Resuming as resuming
-use Rattle.keel_resume.specs.Drafts.{Draft}
+use Rattle.keel_draft.specs.Drafts.{Draft}
+use Rattle.keel_disk.specs.declared.rule.Rule.{Rule}
+use Rattle.keel_flush.specs.Plans.{Job as FlushJob}
+use Rattle.keel_flush.specs.Plans as flush
 use Rattle.keel_resume.specs.Plans as plans
+use Rattle.keel_recovery.proofs.FlushKeeping.{done_beside, failed_beside}
 use Rattle.keel_recovery.proofs.Machine.{got_quiet, scan_quiet}
 use Rattle.keel_recovery.proofs.ResumeCalls.{footing_ready, failed_is}
 use Rattle.keel_recovery.proofs.ResumeTurns.{footing_done}
@@ -95,6 +103,37 @@ resume_keeps first s drafts held (resume_step.Spent counter) device a h = same_t
 resume_keeps first s drafts held (resume_step.Cancelled job current) device a h = same_told first s _ a.quiet.same refl h
 resume_keeps first s drafts held resume_step.OutOfMemory device a h = same_told first s _ a.quiet.same refl h
 
+-- ---- a flush step, and what is arranged
+
+flushed : (first : ℕ) (s next : State) (draft : Draft) (held : Option ℕ) (job : FlushJob) (act : flush.Act) (later : List flush.Act) (failed : Option Fault)
+    → flushing.MadeCall s draft held job act later failed next.device → next.footing ≡ s.footing → IsCounted first s → IsCounted first next
+flushed first s next draft held job act later failed made footing h =
+    stays first s next (call_keeps (flush.change_of job s.numbers.next_file s.numbers.manifest act) s.device.told failed next.device.told made.calls.step) footing h
+
+flush_keeps : (first : ℕ) (s : State) (draft : Draft) (held : Option ℕ) (answer : JobStep) (device : Seen) → flushing.FlushAnswers s draft held answer device → IsCounted first s
+    → IsCounted first (with_device device (flushing.flush_after s draft answer))
+flush_keeps first s draft held (job_step.Moved number call) device a h =
+    flushed first s (with_device device (flushing.call_done draft s)) draft held a.job a.act (a.next ∷ a.later) None a.made (done_beside s draft held a.job a.act (a.next ∷ a.later) a.made.makes).footing h
+flush_keeps first s draft held (job_step.Done number) device a h =
+    flushed first s (with_device device (flushing.call_done draft s)) draft held a.job a.act [] None a.made (done_beside s draft held a.job a.act [] a.made.makes).footing h
+flush_keeps first s draft held (job_step.Failed failure) device a h =
+    flushed first s (with_device device (flushing.call_failed draft failure s)) draft held a.job a.act a.later (Some a.fault) a.made (failed_beside s draft held a.job a.act a.later a.made.makes failure).footing h
+flush_keeps first s draft held job_step.Idle device a h = same_told first s _ a.quiet.same refl h
+flush_keeps first s draft held (job_step.Spent counter) device a h = same_told first s _ a.quiet.same refl h
+flush_keeps first s draft held (job_step.Cancelled number current) device a h = same_told first s _ a.quiet.same refl h
+flush_keeps first s draft held job_step.OutOfMemory device a h = same_told first s _ a.quiet.same refl h
+
+-- the room may change, and the count doesn't
+arranged_forged : (told : Option Told) (answer : Result Bool OutOfMemory) (after : Option Told) → Arranges told answer after → forged_of after ≡ forged_of told
+arranged_forged None answer after same = ap forged_of same
+arranged_forged (Some before) (Err want) after same = ap forged_of same
+arranged_forged (Some before) (Ok false) after same = ap forged_of same
+arranged_forged (Some before) (Ok true) None same = ap forged_of same
+arranged_forged (Some before) (Ok true) (Some after) same = ap (λ (t : Told). t.forged) same
+
+arranged_keeps : (first : ℕ) (s : State) (rule : Rule) (answer : Result Bool OutOfMemory) (device : Seen) → ArrangeAnswers s rule answer device → IsCounted first s → IsCounted first (with_device device s)
+arranged_keeps first s rule answer device a h = stays first s (with_device device s) (arranged_forged s.device.told answer device.told a.told) refl h
+
 -- ---- a crash
 
 one_more : (first old new : ℕ) → first < 2 ^ 64 - 1 → first ≤ old → new ≡ raised old → first < new
@@ -156,6 +195,10 @@ answer_keeps first s (TakingOutcome ticket outcome) device bound a h = same_told
 answer_keeps first s (Getting key got) device bound a h = same_told first s _ (got_quiet s key got device a) refl h
 answer_keeps first s (Scanning from to scanned) device bound a h = same_told first s _ (scan_quiet s from to scanned device a) refl h
 answer_keeps first s (Listing answer) device bound a h = same_told first s _ a.quiet.same refl h
+answer_keeps first s (Flushing draft held answer) device bound a h = flush_keeps first s draft held answer device a h
+answer_keeps first s (TellingError failure) device bound a h = same_told first s _ (ap (λ (d : Seen). d.told) a.1) refl h
+answer_keeps first s (TellingLevels view) device bound a h = same_told first s _ (ap (λ (d : Seen). d.told) a.1) refl h
+answer_keeps first s (Arranging rule answer) device bound a h = arranged_keeps first s rule answer device a h
 answer_keeps first s (Crashing pick kept) device bound a h = crash_keeps first s pick kept device bound a h
 answer_keeps first s Finishing device bound a h = same_told first s _ (ap (λ (d : Seen). d.told) a) refl h
 

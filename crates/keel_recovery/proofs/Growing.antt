@@ -17,7 +17,7 @@ use Rattle.keel_disk.proofs.Meaning.{all_read_stays}
 use Rattle.keel_disk.proofs.Steadily.{steady_read, AppendLeaves, append_leaves, SyncLeaves, sync_leaves, steady_present, steady_changed, file_changed}
 use Rattle.keel_directory.specs.TableFiles.{TableFile}
 use Rattle.keel_frag.specs.Writing.{records_bytes}
-use Rattle.keel_machine.specs.States.{Story, handed}
+use Rattle.keel_machine.specs.States.{Story, entries_in, handed}
 use Rattle.keel_recovery.specs.Calls.{Answer, ByAnswer, point_handed, CanGrow, grown, LogAppendKeeps, LogSyncKeeps}
 use Rattle.keel_recovery.specs.Chains.{Chained, payloads, HoldsRecords, HoldsBatches, IsWholeLog, IsGoingLog, AreChained}
 use Rattle.keel_recovery.specs.Keeping.{HoldStory, Keeps}
@@ -27,7 +27,7 @@ use Rattle.keel_recovery.proofs.Framing.{others_pass}
 use Rattle.keel_recovery.proofs.LastLog.{others_set, begins_changed, handed_on}
 use Rattle.keel_recovery.proofs.Passing.{AllPass, all_whole_pass, chained_last, last_holds, front_below, less_differs, differs_back, same_file}
 use Rattle.keel_recovery.proofs.Records.{records_spoiled, records_grown, going_grown, records_synced, synced_whole}
-use Rattle.keel_recovery.proofs.Steering.{GoesOn, IsOfLog, PutsAside, append_aside, sync_aside, go_stays, tables_pass, root_pass, live_pass, same_story}
+use Rattle.keel_recovery.proofs.Steering.{GoesOn, IsOfLog, PutsAside, append_aside, sync_aside, go_stays, log_no_manifest, tables_pass, root_pass, live_pass, same_story}
 
 -- ---- the file of the last log is changed
 
@@ -78,13 +78,13 @@ module _ (ways : List Way) (place next_file size : ℕ) (front : List Chained) (
         let after = with_file file set state in
         let tables = tables_pass change answer state after of_log one step in
         record {
-          go = go_stays ways change answer state after of_log aside h.go step;
+          go = go_stays ways change answer state after (log_no_manifest change of_log) aside h.go step;
           roots = λ way is count least most.
               let root = h.roots way is count least most in
-              root_pass (take count way.edits) (front ++ log ∷ []) (front ++ next ∷ []) story after_story next_file next_file state after root tables on (omega arith)
+              root_pass (take count way.edits) (front ++ log ∷ []) (front ++ next ∷ []) story after_story next_file next_file state after root (tables root.version.tables) on (omega arith)
               (begins_changed root.version.min_log root.place front log next story after_story same before log_same)
               (others_set root.version.min_log file front log next set state same one can.going.steady);
-          live = live_pass place levels story after_story state after h.stored.place_within tables on h.live;
+          live = live_pass place levels story after_story state after h.stored.place_within (tables (entries_in levels)) on h.live;
           stored = stored;
           drawn = λ count number name found. h.drawn count number name found;
           read = all_read_stays change answer state after one spares h.read step;

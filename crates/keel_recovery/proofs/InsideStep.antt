@@ -19,7 +19,7 @@ use Rattle.keel_recovery.proofs.Inside.{call_leaves_prefix}
 use Rattle.keel_disk.proofs.Staying.{one_stays}
 use Rattle.keel_recovery.proofs.Ordering.{went_well}
 use Rattle.keel_recovery.proofs.Kept.{stored_stands, stored_floor, kept_stands}
-use Rattle.keel_recovery.proofs.WriteTurns.{gives_names, no_group_made, ready_file}
+use Rattle.keel_recovery.proofs.WriteTurns.{below_of, gives_names, no_group_made, ready_file}
 use Rattle.keel_recovery.proofs.Covered.{OpenBy, covered_by}
 use Rattle.keel_recovery.proofs.Turning.{ready_keeps}
 
@@ -107,5 +107,5 @@ inside_step s told held group act later failed device is known h tells made imag
     (call_leaves_prefix told.state (change_of at group act) s.story (call_done s).story (kept_stands told.state s kept)
     (λ after did. stored_stands after (call_done s)
     (one_stays (change_of at group act) went_well told.state after (gives_names s held group act later failed device made (omega (arith, kept.numbered, ready_file s))) kept.one_to_one did)
-    (group_done_stored at group act later made.makes.group_is made.makes.next told.state after kept.one_to_one kept.cuts stored did))
+    (group_done_stored at group act later made.makes.group_is made.makes.next (λ rest left. below_of s held group rest made.makes.no_rest made.makes.group_is left) told.state after kept.one_to_one kept.cuts stored did))
     image mid)

@@ -25,9 +25,9 @@ use Rattle.keel_recovery.specs.Chains.{Chained, size_of_first, batches_of, Holds
 use Rattle.keel_directory.specs.TableFiles.{TableFile}
 use Rattle.keel_recovery.specs.Keeping.{Keeps}
 use Rattle.keel_recovery.specs.Roots.{Way, BeginsAt, first_from, point_at}
-use Rattle.keel_recovery.proofs.Framing.{others_pass, frame_keeps}
+use Rattle.keel_recovery.proofs.Framing.{others_pass, frame_keeps, log_pass}
 use Rattle.keel_recovery.proofs.Passing.{all_whole_pass, chained_push, front_below}
-use Rattle.keel_recovery.proofs.Steering.{root_pass, same_story}
+use Rattle.keel_recovery.proofs.Steering.{root_pass, same_story, tables_same}
 use Rattle.keel_recovery.proofs.Following.{batches_push, follow_push, unchained_push, at_end}
 
 pub create_makes : CreateMakes
@@ -72,7 +72,7 @@ module _ (ways : List Way) (place next_file number : ℕ) (front : List Chained)
   all_apart (log ∷ logs) = (tt, all_apart logs)
 
   kept : Keeps ways place logs levels story next_file after
-  kept = frame_keeps ways place next_file next_file logs levels story SyncDir (Ok tt) state after one h tt (all_apart logs) (omega arith) tt step
+  kept = frame_keeps ways place next_file next_file logs levels story SyncDir (Ok tt) state after one h tt (all_apart logs) (log_pass ways levels SyncDir (Ok tt) state after one tt step) (omega arith) tt step
 
   firm : Firm (Log number) new.file state after
   firm = present_firm (Log number) new.file state after new.present step
@@ -101,7 +101,7 @@ module _ (ways : List Way) (place next_file number : ℕ) (front : List Chained)
           roots = λ way is count least most.
               let root = kept.roots way is count least most in
               let le = reach way count root.version is least most root.is_version in
-              root_pass (take count way.edits) logs (logs ++ next ∷ []) story story next_file next_file after after root (λ n file steady. (steady, refl)) (same_story story) (omega arith)
+              root_pass (take count way.edits) logs (logs ++ next ∷ []) story story next_file next_file after after root (tables_same after root.version.tables) (same_story story) (omega arith)
               (λ begins. subst (λ (o : Option Chained). BeginsAt root.place o story) (sym (first_push root.version.min_log front log next le)) begins)
               (λ others count n file low none found. others count n file low (unchained_push n logs next none) found);
           live = kept.live;
@@ -131,7 +131,8 @@ pub sync_dir_keeps : SyncDirKeeps
 sync_dir_keeps ways place next_file number front log levels story (Ok value) state after one h reach above new whole step =
     joins ways place next_file number front log levels story state after one h reach above new whole step
 sync_dir_keeps ways place next_file number front log levels story (Err (error.Fault fault)) state after one h reach above new whole step =
-    frame_keeps ways place next_file next_file (front ++ log ∷ []) levels story SyncDir (Err (error.Fault fault)) state after one h tt (none_apart (front ++ log ∷ [])) (omega arith) tt step
+    frame_keeps ways place next_file next_file (front ++ log ∷ []) levels story SyncDir (Err (error.Fault fault)) state after one h tt (none_apart (front ++ log ∷ []))
+    (log_pass ways levels SyncDir (Err (error.Fault fault)) state after one tt step) (omega arith) tt step
   where
     none_apart : (logs : List Chained) → AllByRecursion (λ (log : Chained). IsApart (Log log.number) SyncDir) logs
     none_apart [] = tt

@@ -23,9 +23,16 @@ pub mod Following
 pub mod Steering
 pub mod Framing
 pub mod Joining
+pub mod FlushTables
+pub mod FlushStays
 pub mod LastLog
 pub mod Growing
 pub mod Publishing
+pub mod FlushEditing
+pub mod FlushPlaces
+pub mod FlushApplying
+pub mod FlushGiving
+pub mod FlushEnding
 pub mod BootSteps
 pub mod BootKeeps
 pub mod BootMaking
@@ -80,3 +87,10 @@ pub mod Found
 pub mod Opening
 pub mod Opened
 pub mod Examples
+pub mod FlushKept
+pub mod FlushSteps
+pub mod FlushStops
+pub mod FlushTurns
+pub mod FlushStored
+pub mod FlushKeeping
+pub mod SafeFlushes

@@ -18,7 +18,7 @@ use Rattle.keel_disk.specs.Directory.{Named}
 use Rattle.keel_frag.specs.declared.record.LogRecord.{LogRecord}
 use Rattle.keel_recovery.proofs.Payloads.{AreSmall, HoldSmall, fits_of, records_small}
 use Rattle.keel_recovery.proofs.Rows.{ops_found}
-use Rattle.keel_resume.specs.Drafts.{batch_rows, count_ops}
+use Rattle.keel_draft.specs.Drafts.{batch_rows, count_ops}
 
 -- ---- the bytes of logs
 

@@ -1,12 +1,14 @@
 -- Every turn of the machine keeps its device covered.
-use Rattle.std.proofs.Common.{◌≡◌, ℕ, Bool, false, List, [], Option, Some, None, Ok, Err, refl, sym, ap, subst}
+use Rattle.std.proofs.Common.{◌≡◌, ℕ, Bool, true, false, List, [], Option, Some, None, Result, Ok, Err, refl, sym, ap, subst}
 use Rattle.keel_base.specs.declared.options.Options.{Options}
 use Rattle.keel_base.specs.Points.{Point}
 use Rattle.keel_disk.specs.Plain.{image_read}
 use Rattle.keel_disk.specs.Seen.{Seen}
 use Rattle.keel_disk.specs.Sound.{IsAtRest}
 use Rattle.keel_disk.specs.State.{State as Disk, has_waiting_cut}
-use Rattle.keel_disk.specs.Told.{Told}
+use Rattle.keel_base.specs.declared.memory.OutOfMemory.{OutOfMemory}
+use Rattle.keel_disk.specs.declared.rule.Rule.{Rule}
+use Rattle.keel_disk.specs.Told.{Told, Arranges}
 use Rattle.keel_directory.specs.Reading.{Reading, IsReading, HasPoint, new, held, refused}
 use Rattle.keel_directory.specs.Sound.{IsSoundReading}
 use Rattle.keel_directory.specs.Standing.{ReadsAs}
@@ -14,7 +16,8 @@ use Rattle.keel_directory.proofs.OneReading.{reading_one}
 use Rattle.keel_machine.specs.Admission.{without_outcome}
 use Rattle.keel_machine.specs.Opening.{Found, IsFoundIn, IsFoundBy, goes_on_from, OpenAnswers, story_opened, opened}
 use Rattle.keel_machine.specs.States.{State, Footing, Known, Unknown, Phase, Shut, Booting, Open, Leaving, Nothing, Crashed, Left, Story, is_open, is_left, new_story, with_device}
-use Rattle.keel_machine.specs.Turns.{Event, Opening, Admitting, Writing, Resuming, TakingOutcome, Getting, Scanning, Listing, Crashing, Finishing, Answers, after}
+use Rattle.keel_machine.specs.Turns.{Event, Opening, Admitting, Writing, Resuming, Flushing, TakingOutcome, Getting, Scanning, Listing, TellingError, TellingLevels, Arranging, Crashing, Finishing, Answers, after}
+use Rattle.keel_machine.specs.Telling.{ArrangeAnswers}
 use Rattle.keel_machine.specs.Reads.{IsReadFault, GetAnswers, ScanAnswers}
 use Rattle.keel_machine.specs.declared.answers.Got.{Got}
 use Rattle.keel_machine.specs.declared.answers.Got.TheVariants as got
@@ -28,8 +31,9 @@ use Rattle.keel_recovery.specs.BootLaws.{IsAfterCrash}
 use Rattle.keel_recovery.specs.BootTurns.{BootCallKeeps}
 use Rattle.keel_recovery.specs.Machine.{MayCall, IsSoundIfRead, IsLeft, KeptShut, KeptBy, IsCoveredBy, IsCovered, OpeningBoots, TurnKeeps}
 use Rattle.keel_recovery.specs.Standing.{Stands}
-use Rattle.keel_recovery.proofs.Covered.{same_keeps, as_it_is, same_boot}
+use Rattle.keel_recovery.proofs.Covered.{OpenBy, same_keeps, as_it_is, same_boot, told_keeps}
 use Rattle.keel_recovery.proofs.Crashing.{crash_keeps}
+use Rattle.keel_recovery.proofs.FlushKeeping.{flush_keeps}
 use Rattle.keel_recovery.proofs.Resting.{first_stands}
 use Rattle.keel_recovery.proofs.ResumeTurns.{resume_keeps}
 use Rattle.keel_recovery.proofs.WriteTurns.{write_keeps, admit_keeps}
@@ -130,6 +134,21 @@ scan_quiet s from to (scanned.Rows rows) device a = a.1.same
 scan_quiet s from to (scanned.ReadFault number cause) device a = fault_quiet s cause device a
 scan_quiet s from to scanned.OutOfMemory device a = a.same
 
+-- ---- what is arranged
+
+-- the room may change, and nothing that is kept is about it
+arranged_by : (f : Footing) (told : Option Told) (answer : Result Bool OutOfMemory) (after : Option Told) (s : State) → Arranges told answer after → OpenBy f told s → OpenBy f after s
+arranged_by f None answer after s same h = subst (λ (t : Option Told). OpenBy f t s) (sym same) h
+arranged_by f (Some before) (Err want) after s same h = subst (λ (t : Option Told). OpenBy f t s) (sym same) h
+arranged_by f (Some before) (Ok false) after s same h = subst (λ (t : Option Told). OpenBy f t s) (sym same) h
+arranged_by f (Some before) (Ok true) None s same h = subst (λ (t : Option Told). OpenBy f t s) (sym same) h
+arranged_by Unknown (Some before) (Ok true) (Some after) s same h = tt
+arranged_by Known (Some before) (Ok true) (Some after) s same h = subst (λ (d : Disk). KeptBy s.mode.phase (is_left s.mode.left) d s) (sym (ap (λ (t : Told). t.state) same)) h
+
+arranged_keeps : (s : State) (rule : Rule) (answer : Result Bool OutOfMemory) (device : Seen) → ArrangeAnswers s rule answer device → IsCovered s → IsCovered (with_device device s)
+arranged_keeps s rule answer device a h =
+    told_keeps s device (λ f was. arranged_by f s.device.told answer device.told s a.told was) h
+
 -- ---- every turn
 
 answer_keeps : OpeningBoots → BootCallKeeps → (s : State) (event : Event) (device : Seen) → MayCall s event → Answers s event device → IsCovered s → IsCovered (after s event device)
@@ -138,10 +157,14 @@ answer_keeps opens boots s (Opening options (Err refused_by)) device may a h = a
 answer_keeps opens boots s (Admitting batch answer) device may a h = admit_keeps s batch answer device a.0 (ap (λ (d : Seen). d.told) a.1) h
 answer_keeps opens boots s (Writing job answer) device may a h = write_keeps s job answer device may a h
 answer_keeps opens boots s (Resuming drafts job answer) device may a h = resume_keeps boots s drafts job answer device may a h
+answer_keeps opens boots s (Flushing draft job answer) device may a h = flush_keeps s draft job answer device a h
 answer_keeps opens boots s (TakingOutcome ticket outcome) device may a h = same_keeps s device (without_outcome ticket s).writing.outcomes (ap (λ (d : Seen). d.told) a.1) h
 answer_keeps opens boots s (Getting key got) device may a h = as_it_is s device (got_quiet s key got device a) h
 answer_keeps opens boots s (Scanning from to scanned) device may a h = as_it_is s device (scan_quiet s from to scanned device a) h
 answer_keeps opens boots s (Listing answer) device may a h = as_it_is s device a.quiet.same h
+answer_keeps opens boots s (TellingError failure) device may a h = as_it_is s device (ap (λ (d : Seen). d.told) a.1) h
+answer_keeps opens boots s (TellingLevels view) device may a h = as_it_is s device (ap (λ (d : Seen). d.told) a.1) h
+answer_keeps opens boots s (Arranging rule answer) device may a h = arranged_keeps s rule answer device a h
 answer_keeps opens boots s (Crashing pick kept) device may a h = crash_keeps s pick kept device a h
 answer_keeps opens boots s Finishing device may a h = absurd may
 

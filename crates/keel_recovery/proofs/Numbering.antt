@@ -8,7 +8,7 @@ use Rattle.keel_batch.specs.Spelling.{spelling, IsBatch}
 use Rattle.keel_batch.specs.Reading.{batch_of}
 use Rattle.keel_batch.proofs.Laws.{decoded_only}
 use Rattle.keel_batch.specs.Batches.{payloads_behind, AreBatches}
-use Rattle.keel_resume.specs.Drafts.{count_ops}
+use Rattle.keel_draft.specs.Drafts.{count_ops}
 
 pub folded_append : (point : Point) (front rest : List (List Op)) → fold_batches point (front ++ rest) ≡ fold_batches (fold_batches point front) rest
 folded_append point [] rest = refl

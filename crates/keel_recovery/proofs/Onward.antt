@@ -15,7 +15,7 @@ use Rattle.keel_recovery.specs.Roots.{point_at, first_from, BeginsAt}
 use Rattle.keel_recovery.proofs.LogFiles.{RiseFrom, is_in}
 use Rattle.keel_recovery.proofs.Numbering.{folded_append, seq_folded, rest_batches}
 use Rattle.keel_recovery.proofs.Seeing.{AreSeen, numbers_of}
-use Rattle.keel_resume.specs.Drafts.{count_ops}
+use Rattle.keel_draft.specs.Drafts.{count_ops}
 
 abbrev pub all_of : Story → List (List Op)
 all_of story = story.log ++ story.limbo
@@ -55,7 +55,7 @@ in_chain n (log ∷ logs) e = by (eqb log.number n) e (in_chain n logs)
 
 -- ---- the place behind a log
 
-behind_log : (place : ℕ) (batches rest : List (List Op)) (story : Story) → drop place (all_of story) ≡ batches ++ rest → point_at (place + length batches) story ≡ fold_batches (point_at place story) batches
+pub behind_log : (place : ℕ) (batches rest : List (List Op)) (story : Story) → drop place (all_of story) ≡ batches ++ rest → point_at (place + length batches) story ≡ fold_batches (point_at place story) batches
 behind_log place batches rest story e =
     ap (fold_batches story.start) (take-add place (length batches) (all_of story) ∙ ap (λ (l : List (List Op)). take place (all_of story) ++ take (length batches) l) e
     ∙ ap (λ (l : List (List Op)). take place (all_of story) ++ l) (take_at batches rest (length batches) refl))

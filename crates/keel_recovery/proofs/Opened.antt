@@ -108,6 +108,7 @@ opening_boots s options found device told is a rest after stands =
       none_active = refl;
       none_waits = refl;
       no_group = refl;
+      no_flush = refl;
     }
   where
     no_current : (state : Disk) → IsAtRest state → find Current (below (length state.files) state.firm) ≡ None → find Current (image_read state) ≡ None

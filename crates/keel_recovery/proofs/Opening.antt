@@ -43,7 +43,7 @@ use Rattle.keel_recovery.proofs.Limits.{ImageSmall, logs_run}
 use Rattle.keel_recovery.proofs.Payloads.{AreSmall, small_of}
 use Rattle.keel_recovery.proofs.Rows.{ops_found}
 use Rattle.keel_recovery.proofs.Stands.{own_name}
-use Rattle.keel_resume.specs.Drafts.{batch_rows, count_ops}
+use Rattle.keel_draft.specs.Drafts.{batch_rows, count_ops}
 use Rattle.keel_version.specs.Tables.{AreLevels, IsWithin, nothing}
 
 -- ---- the bytes that reads give

@@ -1,7 +1,7 @@
 -- The order of a group's calls and batches.
 use Rattle.std.specs.Prelude.{is_some}
 use Rattle.std.specs.List.{AllByRecursion}
-use Rattle.std.proofs.Common.{◌≡◌, ℕ, zero, suc, ◌+◌, ◌<◌, ◌≤◌, true, List, [], ◌∷◌, ◌++◌, drop, Option, Some, None, Ok, Err, refl, sym, ap, subst, ◌∙◌, arith}
+use Rattle.std.proofs.Common.{◌≡◌, ℕ, zero, suc, ◌+◌, ◌<◌, ◌≤◌, true, List, [], ◌∷◌, ◌++◌, drop, Option, Some, None, Ok, Err, sym, ap, subst, ◌∙◌, arith}
 use Rattle.std.proofs.lemmas.List.{append_assoc, append-nil}
 use Rattle.keel_base.specs.Points.{Point, fold_batches}
 use Rattle.keel_base.specs.declared.failure.Failure.{Failure}
@@ -13,10 +13,10 @@ use Rattle.keel_disk.specs.State.{State as Disk}
 use Rattle.keel_machine.specs.States.{Story, Segment, point_of}
 use Rattle.keel_recovery.specs.Calls.{Answer, point_handed, AllReach, AllWhole}
 use Rattle.keel_recovery.specs.Chains.{Chained, IsWholeLog}
-use Rattle.keel_recovery.specs.Machine.{AreFull, UnlessStopped}
+use Rattle.keel_recovery.specs.Machine.{AreFull, WhileItGoes}
 use Rattle.keel_recovery.specs.Roots.{Way}
 use Rattle.keel_recovery.proofs.Numbering.{folded_append, seq_folded, front_batches, rest_batches}
-use Rattle.keel_resume.specs.Drafts.{count_ops}
+use Rattle.keel_draft.specs.Drafts.{count_ops}
 
 abbrev pub went_well : Answer
 went_well = Ok tt
@@ -54,9 +54,13 @@ published_order story waiting h =
 pub none_handed : (story : Story) → story.limbo ≡ [] → point_handed story ≡ point_of story
 none_handed story none = ap (λ (l : List (List Op)). fold_batches story.start (story.log ++ l)) none ∙ ap (fold_batches story.start) (append-nil story.log)
 
-pub stopped : (stops : Option Failure) (goes : Type 0) → is_some stops ≡ true → UnlessStopped stops None goes
+pub stopped : (stops : Option Failure) (goes : Type 0) → is_some stops ≡ true → WhileItGoes None stops goes
 stopped None goes some = cc
-stopped (Some failure) goes some = refl
+stopped (Some failure) goes some = tt
+
+pub goes_while : (stops : Option Failure) (goes : Type 0) → goes → WhileItGoes None stops goes
+goes_while None goes h = h
+goes_while (Some failure) goes h = tt
 
 -- the full segments and one more
 pub full_push : (immutable : List Segment) (full : List Chained) (own : Chained) (segment : Segment) → segment.logs ≡ own.number ∷ [] → own.batches ≡ segment.batches → AreFull immutable full

@@ -8,14 +8,14 @@ use Rattle.keel_base.specs.declared.file_name.FileName.TheVariants.{Log}
 use Rattle.keel_base.specs.declared.op.Op.{Op}
 use Rattle.keel_disk.specs.State.{State, file_at}
 use Rattle.keel_disk.specs.Steady.{IsGoing}
-use Rattle.keel_machine.specs.States.{Story, published}
+use Rattle.keel_machine.specs.States.{Story, entries_in, published}
 use Rattle.keel_recovery.specs.Calls.{PublishKeeps}
 use Rattle.keel_recovery.specs.Chains.{Chained, payloads, HoldsBatches, IsWholeLog}
 use Rattle.keel_recovery.specs.Roots.{BeginsAt, first_from}
 use Rattle.keel_recovery.proofs.Following.{same_all, stored_published}
 use Rattle.keel_recovery.proofs.Passing.{AllPass, chained_last, last_holds, same_file, whole_holds}
 use Rattle.keel_recovery.proofs.Records.{records_read}
-use Rattle.keel_recovery.proofs.Steering.{GoesOn, root_pass, live_pass}
+use Rattle.keel_recovery.proofs.Steering.{GoesOn, root_pass, live_pass, tables_same}
 
 all_same : (logs : List Chained) (state : State) → AllPass logs state state
 all_same [] state = tt
@@ -52,9 +52,9 @@ publish_keeps ways place next_file size sync front log levels story state h can 
       go = h.go;
       roots = λ way is count least most.
           let root = h.roots way is count least most in
-          root_pass (take count way.edits) (front ++ log ∷ []) (front ++ log ∷ []) story next next_file next_file state state root (λ n file steady. (steady, refl)) on (omega arith)
+          root_pass (take count way.edits) (front ++ log ∷ []) (front ++ log ∷ []) story next next_file next_file state state root (tables_same state root.version.tables) on (omega arith)
           (begins_still root.version.min_log root.place front log story next (reach way count root.version is least most root.is_version)) (λ others. others);
-      live = live_pass place levels story next state state h.stored.place_within (λ n file steady. (steady, refl)) on h.live;
+      live = live_pass place levels story next state state h.stored.place_within (tables_same state (entries_in levels)) on h.live;
       stored = stored_published place (front ++ log ∷ []) sync story state state h.stored
           (chained_last story.floor all next.floor (length next.log) front log log state state refl (all_same front state) can.whole (by sync firm holds) h.stored.chained);
       drawn = h.drawn;

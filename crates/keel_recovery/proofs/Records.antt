@@ -8,7 +8,7 @@ use Rattle.keel_disk.specs.Step.{extended, spoiled, synced}
 use Rattle.keel_disk.specs.Steady.{IsGoing, IsFirmWhole}
 use Rattle.keel_frag.specs.Writing.{records_bytes}
 use Rattle.keel_frag.proofs.Continuing.{going_on}
-use Rattle.keel_resume.specs.Drafts.{count_ops}
+use Rattle.keel_draft.specs.Drafts.{count_ops}
 use Rattle.keel_recovery.specs.Chains.{payloads, size_of_first, HoldsRecords}
 use Rattle.keel_recovery.proofs.Numbering.{payloads_append, payloads_length}
 use Rattle.keel_recovery.proofs.Passing.{take_length}

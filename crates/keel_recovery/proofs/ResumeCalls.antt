@@ -9,7 +9,7 @@ use Rattle.keel_machine.specs.Resuming.{Makes, resume_rest, resume_ready, rests_
 use Rattle.keel_machine.specs.States.{State, is_booting, Resumption}
 use Rattle.keel_machine.specs.Tests.{first_some}
 use Rattle.keel_machine.proofs.FirstTests.{none_when, none_of}
-use Rattle.keel_resume.specs.Drafts.{Draft}
+use Rattle.keel_draft.specs.Drafts.{Draft}
 use Rattle.keel_resume.specs.Plans.{Act}
 
 pub phase_ready : (running : Option Resumption) (drafts : List Draft) (s : State) → (started_or running drafts s).mode ≡ s.mode
@@ -44,6 +44,6 @@ done_is s drafts held running act later makes =
     ap (λ (r : Option Resumption). boot_done r (resume_ready drafts s)) makes.running_is ∙ ap (λ (l : List Act). first_done running l (resume_ready drafts s)) makes.next
 
 pub failed_is : (s : State) (drafts : List Draft) (held : Option ℕ) (running : Resumption) (act : Act) (later : List Act) (failure : Failure) → Makes s drafts held running act later
-    → call_failed drafts failure s ≡ act_failed act failure (resume_ready drafts s)
+    → call_failed drafts failure s ≡ act_failed act running.job failure (resume_ready drafts s)
 failed_is s drafts held running act later failure makes =
-    ap (λ (r : Option Resumption). boot_failed r failure (resume_ready drafts s)) makes.running_is ∙ ap (λ (l : List Act). first_failed l failure (resume_ready drafts s)) makes.next
+    ap (λ (r : Option Resumption). boot_failed r failure (resume_ready drafts s)) makes.running_is ∙ ap (λ (l : List Act). first_failed running.job l failure (resume_ready drafts s)) makes.next

@@ -17,7 +17,7 @@ use Rattle.keel_machine.specs.Tests.{first_some, when, differing}
 use Rattle.keel_machine.proofs.FirstTests.{none_when, none_of}
 use Rattle.keel_manifest.specs.declared.roll.RollCall.{RollCall}
 use Rattle.keel_manifest.specs.declared.roll.RollCall.TheVariants as rolls
-use Rattle.keel_resume.specs.Drafts.{Draft}
+use Rattle.keel_draft.specs.Drafts.{Draft}
 use Rattle.keel_resume.specs.Plans.{Act, MakeTable, AddPiece, SyncTable, MakeLog, SyncLogName, Rolls, Job, job_of, left_of, plan_of, draws, change_of}
 use Rattle.keel_recovery.specs.BootCalls.{BootKept, HasMadeSo, RunsSo, AtTables, InTable, AtLogName, AtRoll, IsMade, RollMade}
 use Rattle.keel_recovery.proofs.ResumeCalls.{files_ready}

@@ -10,9 +10,10 @@ use Rattle.keel_disk.specs.Sound.{IsOneToOne}
 use Rattle.keel_disk.proofs.Staying.{GivesNames, one_stays, cuts_stay}
 use Rattle.keel_machine.specs.declared.steps.ResumeStep.{ResumeStep}
 use Rattle.keel_machine.specs.declared.steps.ResumeStep.TheVariants as step
-use Rattle.keel_machine.specs.Resuming.{Makes, MadeCall, ResumeAnswers, resume_ready, resume_after, started_or, act_done, call_done, call_failed, with_next_file}
+use Rattle.keel_flush.specs.Plans.{Job as FlushJob}
+use Rattle.keel_machine.specs.Resuming.{Makes, MadeCall, ResumeAnswers, resume_ready, resume_after, started_or, act_done, call_done, call_failed, numbered_behind}
 use Rattle.keel_machine.specs.States.{State, Phase, Shut, Booting, Open, Mode, Writing, Slot, is_open, is_left, is_booting, Resumption, Group, with_device}
-use Rattle.keel_resume.specs.Drafts.{Draft}
+use Rattle.keel_draft.specs.Drafts.{Draft}
 use Rattle.keel_resume.specs.Plans.{Act, change_of, draws, failure_of, moved, next_behind}
 use Rattle.keel_recovery.specs.BootCalls.{BootKept}
 use Rattle.keel_recovery.specs.BootTurns.{BootCallKeeps, GoesOn, IsCleared}
@@ -33,6 +34,10 @@ write_ready : (running : Option Resumption) (drafts : List Draft) (s : State) �
 write_ready None drafts s = refl
 write_ready (Some running) drafts s = refl
 
+flushes_ready : (running : Option Resumption) (drafts : List Draft) (s : State) → (started_or running drafts s).jobs.flush ≡ s.jobs.flush
+flushes_ready None drafts s = refl
+flushes_ready (Some running) drafts s = refl
+
 next_more : (act : Act) (next : ℕ) → next ≤ next_behind act next
 next_more act next = by (draws act)
   where
@@ -47,12 +52,12 @@ booting_kept n device state phase one cuts kept =
 
 -- what a call that was answered Ok leaves, by the calls that are left
 done_kept : (act : Act) (running : Resumption) (later : List Act) (n at : State) (device : Seen) (state : Disk) → n ≡ act_done act running later at → at.mode.phase ≡ Booting → IsOneToOne state → CutsExist state
-    → 1 ≤ at.numbers.next_file → at.writing.waiting ≡ [] → at.jobs.write.running ≡ None → GoesOn later n state → KeptBy n.mode.phase (is_left n.mode.left) state (with_device device n)
-done_kept act running [] n at device state is booting one cuts numbered none_waits none_runs h =
+    → 1 ≤ at.numbers.next_file → at.writing.waiting ≡ [] → at.jobs.write.running ≡ None → at.jobs.flush.running ≡ None → GoesOn later n state → KeptBy n.mode.phase (is_left n.mode.left) state (with_device device n)
+done_kept act running [] n at device state is booting one cuts numbered none_waits none_runs none_flush h =
     subst (λ (m : State). KeptBy m.mode.phase (is_left m.mode.left) state (with_device device m)) (sym is)
-    (clear_kept (moved at.numbers.next_file act running.job) (with_next_file (next_behind act at.numbers.next_file) at) device state one cuts (omega (arith, numbered, next_more act at.numbers.next_file)) none_waits none_runs
+    (clear_kept (moved at.numbers.next_file act running.job) (numbered_behind act running.job at) device state one cuts (omega (arith, numbered, next_more act at.numbers.next_file)) none_waits none_runs none_flush
     (subst (λ (m : State). IsCleared m state) is h))
-done_kept act running (next ∷ later) n at device state is booting one cuts numbered none_waits none_runs h =
+done_kept act running (next ∷ later) n at device state is booting one cuts numbered none_waits none_runs none_flush h =
     booting_kept n device state (ap (λ (m : State). m.mode.phase) is ∙ booting) one cuts h
 
 -- ---- a call
@@ -76,6 +81,7 @@ module _ (boots : BootCallKeeps) (s : State) (drafts : List Draft) (held : Optio
       (omega (arith, h.kept.numbered, ap (λ n. n.next_file) (files_ready s.jobs.resume.running drafts s)))
       (ap (λ (w : Writing). w.waiting) (writing_ready s.jobs.resume.running drafts s) ∙ h.kept.none_waits)
       (ap (λ (w : Slot Group). w.running) (write_ready s.jobs.resume.running drafts s) ∙ h.kept.no_group)
+      (ap (λ (w : Slot FlushJob). w.running) (flushes_ready s.jobs.resume.running drafts s) ∙ h.kept.no_flush)
       (boots s drafts held running act later None before behind h.one_to_one h.cuts h.kept makes step)
 
   failed_after : (fault : Fault) (before behind : Disk) → s.mode.phase ≡ Booting → IsBootingStore before s → DiskStep before (change_of running.job s.numbers.next_file act) (went_wrong fault) behind

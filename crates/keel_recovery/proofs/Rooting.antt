@@ -30,7 +30,7 @@ use Rattle.keel_recovery.proofs.OpenTables.{open_are, said_known}
 use Rattle.keel_recovery.proofs.Rows.{AreKnown, map_folds, rows_agree}
 use Rattle.keel_recovery.proofs.Seeing.{numbers_of, GivesFrom, all_give}
 use Rattle.keel_recovery.proofs.TornLog.{ReadsSo}
-use Rattle.keel_resume.specs.Drafts.{count_ops, batch_rows}
+use Rattle.keel_draft.specs.Drafts.{count_ops, batch_rows}
 
 -- what a directory has of a root and of the logs behind it
 pub record ShowsRoot (mark manifest next_file : ℕ) (edits : List Edit) (logs : List Chained) (story : Story) (state : State) (root : IsRoot edits logs story next_file state) (image : Named (List ℕ)) : Type 0 where

@@ -15,7 +15,7 @@ use Rattle.keel_directory.specs.Refusals.{Refusal, log_gap}
 use Rattle.keel_directory.specs.Replays.{run_on, replayed_rows}
 use Rattle.keel_directory.specs.Sound.{Agree, AllAgree}
 use Rattle.keel_mem.proofs.Folding.{rows_fold}
-use Rattle.keel_resume.specs.Drafts.{batch_rows, count_ops}
+use Rattle.keel_draft.specs.Drafts.{batch_rows, count_ops}
 use Rattle.keel_recovery.proofs.Numbering.{counted_append}
 
 -- ---- ops in one list

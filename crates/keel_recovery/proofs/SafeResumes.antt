@@ -11,7 +11,7 @@ use Rattle.keel_disk.proofs.Staying.{one_stays}
 use Rattle.keel_machine.specs.declared.steps.ResumeStep.TheVariants as step
 use Rattle.keel_machine.specs.Resuming.{Makes, MadeCall, resume_ready, started_or, act_done, call_done, call_failed}
 use Rattle.keel_machine.specs.States.{State, Footing, Known, Story, Resumption, is_open, is_left}
-use Rattle.keel_resume.specs.Drafts.{Draft}
+use Rattle.keel_draft.specs.Drafts.{Draft}
 use Rattle.keel_resume.specs.Plans.{Act, change_of, failure_of}
 use Rattle.keel_recovery.specs.BootLaws.{IsAfterCrash}
 use Rattle.keel_recovery.specs.BootTurns.{BootCallKeeps, GoesOn}

@@ -15,7 +15,7 @@ use Rattle.keel_recovery.proofs.LogFiles.{log_bytes, with_some, files_of}
 use Rattle.keel_recovery.proofs.Numbering.{front_batches, rest_batches, payloads_length}
 use Rattle.keel_recovery.proofs.Rows.{replays_run, none_run}
 use Rattle.keel_recovery.proofs.TornLog.{GivesFirst, ReadsSo, torn_gives, one_before}
-use Rattle.keel_resume.specs.Drafts.{count_ops}
+use Rattle.keel_draft.specs.Drafts.{count_ops}
 
 -- The bytes of a log are those that a crash, or a read, may leave of its records: the first so many firm.
 pub record SeenLog (mark : ℕ) (log : Chained) (bytes : List ℕ) : Type 0 where

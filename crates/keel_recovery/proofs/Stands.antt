@@ -1,6 +1,5 @@
 -- A device stands for the story that it keeps.
-use Rattle.std.proofs.Common.{◌≡◌, inl, inr, ⊎_elim, ℕ, ◌+◌, ◌-◌, ◌≤◌, Bool, true, false, if◌then◌else◌, unwrap_or, List, [], ◌∷◌, ◌++◌, length, map, take, drop, Some, Ok, refl, sym, ap, subst, ◌∙◌, arith, take_all}
-use Rattle.std.proofs.lemmas.List.{length-append, take-append-drop}
+use Rattle.std.proofs.Common.{◌≡◌, inl, inr, ⊎_elim, ℕ, ◌-◌, ◌≤◌, Bool, true, false, if◌then◌else◌, unwrap_or, List, [], ◌∷◌, length, map, take, Some, Ok, refl, sym, ap, subst, ◌∙◌, arith, take_all}
 use Rattle.keel_base.specs.declared.file_name.FileName.{FileName}
 use Rattle.keel_base.specs.declared.file_name.FileName.TheVariants.{Log, Table, Manifest, Current}
 use Rattle.keel_base.specs.Name.{IsName, name_eq}
@@ -15,7 +14,6 @@ use Rattle.keel_directory.specs.Manifests.{ManifestIs}
 use Rattle.keel_edit.specs.Spelling.{spelling}
 use Rattle.keel_frag.specs.Images.{IsImage, IsPlain}
 use Rattle.keel_frag.specs.Writing.{records_bytes}
-use Rattle.keel_frag.proofs.Continuing.{going_on}
 use Rattle.keel_machine.specs.States.{Story}
 use Rattle.keel_name.specs.Current.{current_of}
 use Rattle.keel_recovery.specs.Chains.{Chained, payloads, size_of_first, HoldsRecords, HoldsBatches, IsWholeLog, AreChained}
@@ -39,12 +37,6 @@ own_name bound file name (entry ∷ rest) own e = by (name_eq entry.0 name) refl
     by : (t : Bool) → name_eq entry.0 name ≡ t → (if t then Some entry.1 else find name rest) ≡ Some file → (find name rest ≡ Some file → IsName name) → IsName name
     by true is e later = subst IsName (name_eq-true entry.0 name is) own.0.is_name
     by false is e later = later e
-
-pub first_within : (count : ℕ) (payloads : List (List ℕ)) → size_of_first count payloads ≤ length (records_bytes 0 payloads)
-first_within count payloads =
-    let whole : records_bytes 0 payloads ≡ records_bytes 0 (take count payloads) ++ records_bytes (0 + length (records_bytes 0 (take count payloads))) (drop count payloads) =
-    ap (records_bytes 0) (sym (take-append-drop count payloads)) ∙ going_on 0 (take count payloads) (drop count payloads) in
-    omega (arith, ap length whole, length-append (records_bytes 0 (take count payloads)) (records_bytes (0 + length (records_bytes 0 (take count payloads))) (drop count payloads)))
 
 module _ (firm_of : File → ℕ) (count mark floor published : ℕ) (state : State) (image : Named (List ℕ)) (shows : Showing firm_of count state image)
     (marked : (before : ℕ) (payloads : List (List ℕ)) (file : File) → HoldsRecords (floor - before) (published - before) payloads file → size_of_first (mark - before) payloads ≤ firm_of file)
@@ -110,9 +102,7 @@ way_reads way place next_file count logs story state image one_to_one is goes ro
 pub way_is_read : WayIsRead
 way_is_read way place next_file logs story state one_to_one read is goes roots stored =
     way_shown (λ file. length file.read) (length state.waiting) (length story.log) story.floor (length story.log) state (image_read state) (read_shows state one_to_one read)
-    (λ before payloads file h. h.read_to) (λ file bytes h. ap length h.read)
-    (λ way h. omega (arith, first_within way.firm (map spelling way.edits), ap length h.read_is, ap length h.meant_is))
-    way place next_file logs story one_to_one is goes roots stored refl refl (omega arith)
+    (λ before payloads file h. h.read_to) (λ file bytes h. ap length h.read) (λ way h. h.read_to) way place next_file logs story one_to_one is goes roots stored refl refl (omega arith)
 
 pub keeping_stands : KeepingStands
 keeping_stands ways place logs levels story next_file state one_to_one keeps = record {

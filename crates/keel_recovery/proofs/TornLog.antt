@@ -19,7 +19,7 @@ use Rattle.keel_recovery.specs.Chains.{size_of_first}
 use Rattle.keel_recovery.proofs.LogFiles.{with_some}
 use Rattle.keel_recovery.proofs.Numbering.{batches_take, payloads_take, payloads_length, read_again}
 use Rattle.keel_recovery.proofs.Rows.{RunsAs, replays_of, replays_run, runs_append}
-use Rattle.keel_resume.specs.Drafts.{count_ops}
+use Rattle.keel_draft.specs.Drafts.{count_ops}
 
 -- ---- records
 

@@ -12,8 +12,10 @@ use Rattle.keel_disk.specs.State.{State as Disk}
 use Rattle.keel_base.specs.declared.failure.Counter.TheVariants.{FileNumber}
 use Rattle.keel_machine.specs.declared.steps.WriteStep.{WriteStep}
 use Rattle.keel_machine.specs.declared.steps.WriteStep.TheVariants.{Idle, Spent}
+use Rattle.keel_flush.specs.Plans.{Job as FlushJob}
+use Rattle.keel_manifest.specs.State.{ManifestState}
 use Rattle.keel_machine.specs.Admission.{stopping, ops_of, batches_of_group, is_full}
-use Rattle.keel_resume.specs.Drafts.{count_ops}
+use Rattle.keel_draft.specs.Drafts.{count_ops}
 use Rattle.keel_directory.specs.TableFiles.{TableFile}
 use Rattle.keel_group.specs.Queue.{Ticketed, tickets_of, batches_of}
 use Rattle.keel_group.specs.Forming.{next_size, next_batches, wants_sync}
@@ -22,7 +24,7 @@ use Rattle.keel_machine.specs.Tests.{first_some, differing}
 use Rattle.keel_machine.specs.Writing.{group_plan, nothing_made, formed, started, started_or, ready, turned_away, is_nobody_waiting, is_file_spent, draws, rests_before_group, rests_of, cancelled, write_rest}
 use Rattle.keel_machine.proofs.FirstTests.{none_some, none_first, none_later, none_mapped, none_when, none_of}
 use Rattle.keel_recovery.specs.Calls.{CanGrow}
-use Rattle.keel_recovery.specs.Machine.{ops_waiting, IsAt, AreOnTheirWay, UnlessStopped, HoldsBy, IsStored}
+use Rattle.keel_recovery.specs.Machine.{ops_waiting, IsAt, AreOnTheirWay, WhileItGoes, HoldsBy, IsStored}
 use Rattle.keel_recovery.proofs.Numbering.{batches_append, front_batches, counted_append}
 use Rattle.keel_recovery.proofs.Sizes.{IsWithinLimits}
 
@@ -38,13 +40,13 @@ abbrev group_of : List ℕ → List Batch → Bool → Bool → Group
 group_of tickets batches switches sync = record { tickets = tickets; batches = batches; plan = group_plan switches sync; progress = nothing_made }
 
 formed_keeps : (o : Option SegmentLog) (state : Disk) (levels : List TableFile) (story : Story) (immutable : List Segment) (own : List (List Op)) (waiting rest : List Ticketed) (batches : List Batch) (switches sync : Bool)
-    (stops : Option Failure) (tickets : List ℕ) (next_file in_tables : ℕ) → stops ≡ None → ops_waiting waiting ≡ ops_of batches ++ ops_waiting rest
-    → HoldsBy o state levels story immutable own waiting stops None next_file in_tables
-    → HoldsBy o state levels story immutable own rest stops (Some (group_of tickets batches switches sync)) next_file in_tables
-formed_keeps None state levels story immutable own waiting rest batches switches sync stops tickets next_file in_tables none split h = h
-formed_keeps (Some log) state levels story immutable own waiting rest batches switches sync (Some failure) tickets next_file in_tables none split h = none_some failure none
-formed_keeps (Some log) state levels story immutable own waiting rest batches switches sync None tickets next_file in_tables none split h = record {
-  ways = h.ways;
+    (stops : Option Failure) (tickets : List ℕ) (next_file in_tables : ℕ) (flush : Option FlushJob) (manifest : ManifestState) → stops ≡ None → ops_waiting waiting ≡ ops_of batches ++ ops_waiting rest
+    → HoldsBy o state levels story immutable own waiting stops None next_file in_tables flush manifest
+    → HoldsBy o state levels story immutable own rest stops (Some (group_of tickets batches switches sync)) next_file in_tables flush manifest
+formed_keeps None state levels story immutable own waiting rest batches switches sync stops tickets next_file in_tables flush manifest none split h = h
+formed_keeps (Some log) state levels story immutable own waiting rest batches switches sync (Some failure) tickets next_file in_tables flush manifest none split h = none_some failure none
+formed_keeps (Some log) state levels story immutable own waiting rest batches switches sync None tickets next_file in_tables flush manifest none split h = record {
+  way = h.way;
   place = h.place;
   full = h.full;
   are_full = h.are_full;
@@ -54,6 +56,7 @@ formed_keeps (Some log) state levels story immutable own waiting rest batches sw
   keeps = h.keeps;
   reach = h.reach;
   tables_to = h.tables_to;
+  flushes = h.flushes;
   order = (
     h.order.0,
     at switches h.order.1,
@@ -66,19 +69,19 @@ formed_keeps (Some log) state levels story immutable own waiting rest batches sw
     at false none = inl (inl (record { none_in_limbo = none; sync = sync; left_is = refl }))
 
 started_keeps : (state : Disk) (waiting : List Ticketed) (s : State) → stopping s ≡ None
-    → HoldsBy s.segments.active.log state s.levels s.story s.segments.immutable s.segments.active.batches waiting (stopping s) None s.numbers.next_file s.numbers.in_tables
+    → HoldsBy s.segments.active.log state s.levels s.story s.segments.immutable s.segments.active.batches waiting (stopping s) None s.numbers.next_file s.numbers.in_tables s.jobs.flush.running s.numbers.manifest
     → IsStored state s → IsStored state (started waiting s)
 started_keeps state [] s none h same = same
 started_keeps state (first ∷ rest) s none h same =
     let queue : List Ticketed = first ∷ rest in
     formed_keeps s.segments.active.log state s.levels s.story s.segments.immutable s.segments.active.batches queue (drop (next_size queue) queue) (next_batches queue) (is_full s) (wants_sync (next_batches queue)) (stopping s)
-    (take (next_size queue) (tickets_of queue)) s.numbers.next_file s.numbers.in_tables none (ops_split (next_size queue) queue) h
+    (take (next_size queue) (tickets_of queue)) s.numbers.next_file s.numbers.in_tables s.jobs.flush.running s.numbers.manifest none (ops_split (next_size queue) queue) h
 
 none_stands : (s : State) → first_some (rests_before_group s) ≡ None → stopping s ≡ None
 none_stands s h = none_mapped (turned_away s) (stopping s) (none_of (rests_before_group s) h).1.0
 
 running_keeps : (state : Disk) (running : Option Group) (s : State) → first_some (rests_of s running) ≡ None
-    → HoldsBy s.segments.active.log state s.levels s.story s.segments.immutable s.segments.active.batches s.writing.waiting (stopping s) running s.numbers.next_file s.numbers.in_tables
+    → HoldsBy s.segments.active.log state s.levels s.story s.segments.immutable s.segments.active.batches s.writing.waiting (stopping s) running s.numbers.next_file s.numbers.in_tables s.jobs.flush.running s.numbers.manifest
     → IsStored state s → IsStored state (started_or running s)
 running_keeps state None s none h same = started_keeps state s.writing.waiting s (none_stands s none) h same
 running_keeps state (Some group) s none h same = same
@@ -131,11 +134,11 @@ number_below s held group later none runs left = below_in s.jobs.write.running s
 
 -- the order alone is changed
 reordered : (o : Option SegmentLog) (state : Disk) (levels : List TableFile) (story : Story) (immutable : List Segment) (own : List (List Op)) (waiting next : List Ticketed) (stops : Option Failure) (running : Option Group)
-    (next_file in_tables : ℕ) → (AreOnTheirWay story running waiting → AreOnTheirWay story running next) → HoldsBy o state levels story immutable own waiting stops running next_file in_tables
-    → HoldsBy o state levels story immutable own next stops running next_file in_tables
-reordered None state levels story immutable own waiting next stops running next_file in_tables keep h = h
-reordered (Some log) state levels story immutable own waiting next stops running next_file in_tables keep h = record {
-  ways = h.ways;
+    (next_file in_tables : ℕ) (flush : Option FlushJob) (manifest : ManifestState) → (AreOnTheirWay story running waiting → AreOnTheirWay story running next) → HoldsBy o state levels story immutable own waiting stops running next_file in_tables flush manifest
+    → HoldsBy o state levels story immutable own next stops running next_file in_tables flush manifest
+reordered None state levels story immutable own waiting next stops running next_file in_tables flush manifest keep h = h
+reordered (Some log) state levels story immutable own waiting next stops running next_file in_tables flush manifest keep h = record {
+  way = h.way;
   place = h.place;
   full = h.full;
   are_full = h.are_full;
@@ -145,13 +148,15 @@ reordered (Some log) state levels story immutable own waiting next stops running
   keeps = h.keeps;
   reach = h.reach;
   tables_to = h.tables_to;
-  order = by stops h.order;
+  flushes = h.flushes;
+  order = by running stops h.order;
 }
   where
-    by : (stops : Option Failure) → UnlessStopped stops running (CanGrow h.full h.own log.size state × IsAt state story next_file h.own running × AreOnTheirWay story running waiting)
-        → UnlessStopped stops running (CanGrow h.full h.own log.size state × IsAt state story next_file h.own running × AreOnTheirWay story running next)
-    by None order = (order.0, order.1, keep order.2)
-    by (Some failure) order = order
+    by : (r : Option Group) (stops : Option Failure) → WhileItGoes r stops (CanGrow h.full h.own log.size state × IsAt state story next_file h.own running × AreOnTheirWay story running waiting)
+        → WhileItGoes r stops (CanGrow h.full h.own log.size state × IsAt state story next_file h.own running × AreOnTheirWay story running next)
+    by (Some group) stops order = (order.0, order.1, keep order.2)
+    by None None order = (order.0, order.1, keep order.2)
+    by None (Some failure) order = tt
 
 -- the queue is turned away
 
@@ -160,10 +165,10 @@ front_order last limbo group waiting h =
     let front = front_batches last (limbo ++ group) waiting (subst (AreBatches last) (sym (append_assoc limbo group waiting)) h) in
     subst (λ (l : List (List Op)). AreBatches last (limbo ++ l)) (sym (append-nil group)) front
 
-pub turned_keeps : (o : Option SegmentLog) (state : Disk) (levels : List TableFile) (story : Story) (immutable : List Segment) (own : List (List Op)) (waiting : List Ticketed) (stops : Option Failure) (running : Option Group) (next_file in_tables : ℕ)
-    → HoldsBy o state levels story immutable own waiting stops running next_file in_tables → HoldsBy o state levels story immutable own [] stops running next_file in_tables
-turned_keeps o state levels story immutable own waiting stops running next_file in_tables h =
-    reordered o state levels story immutable own waiting [] stops running next_file in_tables
+pub turned_keeps : (o : Option SegmentLog) (state : Disk) (levels : List TableFile) (story : Story) (immutable : List Segment) (own : List (List Op)) (waiting : List Ticketed) (stops : Option Failure) (running : Option Group) (next_file in_tables : ℕ) (flush : Option FlushJob) (manifest : ManifestState)
+    → HoldsBy o state levels story immutable own waiting stops running next_file in_tables flush manifest → HoldsBy o state levels story immutable own [] stops running next_file in_tables flush manifest
+turned_keeps o state levels story immutable own waiting stops running next_file in_tables flush manifest h =
+    reordered o state levels story immutable own waiting [] stops running next_file in_tables flush manifest
     (λ order. front_order (point_of story).seq story.limbo (ops_of (batches_of_group running)) (ops_waiting waiting) order) h
 
 -- a batch is queued
@@ -190,14 +195,14 @@ queued_order last limbo group waiting batch limits most h =
     subst (AreBatches last) e whole
 
 pub queued_keeps : (o : Option SegmentLog) (state : Disk) (levels : List TableFile) (story : Story) (immutable : List Segment) (own : List (List Op)) (waiting : List Ticketed) (stops : Option Failure) (running : Option Group)
-    (next_file in_tables ticket : ℕ) (batch : Batch) → IsWithinLimits batch
+    (next_file in_tables : ℕ) (flush : Option FlushJob) (manifest : ManifestState) (ticket : ℕ) (batch : Batch) → IsWithinLimits batch
     → (point_of story).seq + (count_ops story.limbo + count_ops (ops_of (batches_of_group running)) + count_ops (ops_waiting waiting)) + length batch.ops ≤ 2 ^ 56
-    → HoldsBy o state levels story immutable own waiting stops running next_file in_tables
-    → HoldsBy o state levels story immutable own (waiting ++ (record { ticket = ticket; batch = batch }) ∷ []) stops running next_file in_tables
-queued_keeps o state levels story immutable own waiting stops running next_file in_tables ticket batch limits most h =
+    → HoldsBy o state levels story immutable own waiting stops running next_file in_tables flush manifest
+    → HoldsBy o state levels story immutable own (waiting ++ (record { ticket = ticket; batch = batch }) ∷ []) stops running next_file in_tables flush manifest
+queued_keeps o state levels story immutable own waiting stops running next_file in_tables flush manifest ticket batch limits most h =
     let last = (point_of story).seq in
     let group = ops_of (batches_of_group running) in
     let member : Ticketed = record { ticket = ticket; batch = batch } in
     let e : ops_waiting (waiting ++ member ∷ []) ≡ ops_waiting waiting ++ batch.ops ∷ [] = map-append (λ (m : Ticketed). m.batch.ops) waiting (member ∷ []) in
-    reordered o state levels story immutable own waiting (waiting ++ member ∷ []) stops running next_file in_tables
+    reordered o state levels story immutable own waiting (waiting ++ member ∷ []) stops running next_file in_tables flush manifest
     (λ order. subst (λ (l : List (List Op)). AreBatches last (story.limbo ++ (group ++ l))) (sym e) (queued_order last story.limbo group (ops_waiting waiting) batch limits most order)) h

@@ -1,5 +1,5 @@
 -- A write step, and a batch that is queued, leave the device covered.
-use Rattle.std.proofs.Common.{◌≡◌, ℕ, ◌+◌, ◌^◌, ◌≤◌, Bool, true, false, List, [], ◌∷◌, Option, Some, None, refl, sym, subst, ◌∙◌, ltb-false, arith}
+use Rattle.std.proofs.Common.{◌≡◌, ℕ, ◌+◌, ◌^◌, ◌<◌, ◌≤◌, Bool, true, false, List, [], ◌∷◌, Option, Some, None, refl, sym, subst, ◌∙◌, ltb-false, arith}
 use Rattle.keel_base.specs.declared.failure.Counter.TheVariants.{Sequence}
 use Rattle.keel_base.specs.declared.failure.Failure.{Failure}
 use Rattle.keel_base.specs.declared.failure.Fault.{Fault}
@@ -14,7 +14,7 @@ use Rattle.keel_machine.specs.declared.steps.WriteStep.{WriteStep}
 use Rattle.keel_machine.specs.declared.steps.WriteStep.TheVariants as step
 use Rattle.keel_machine.specs.Admission.{AdmitAnswers, size_refusal, refusals, refusal, seq_with, is_sequence_spent, stopping, queued, admit_after}
 use Rattle.keel_machine.specs.Outside.{as_answer}
-use Rattle.keel_machine.specs.States.{State, Phase, Shut, Booting, Open, is_open, is_left, is_booting, Mode, Resumption, Group, Act, CloseLog, MakeLog, SyncDirectory, AddRecords, SyncLog, with_device}
+use Rattle.keel_machine.specs.States.{State, Phase, Shut, Booting, Open, is_open, is_left, is_booting, Mode, Resumption, Group, Act, CloseLog, MakeLog, SyncDirectory, AddRecords, SyncLog, left_of, with_device}
 use Rattle.keel_machine.specs.Writing.{started, started_or, ready, write_rest, change_of}
 use Rattle.keel_machine.specs.WritingAfter.{WriteAnswers, MadeCall, call_done, call_failed, failure_of, queue_turned, write_after}
 use Rattle.keel_machine.proofs.FirstTests.{none_some, none_when, none_of}
@@ -61,6 +61,7 @@ turned_boot state s failure device k = record {
   none_active = k.none_active;
   none_waits = refl;
   no_group = k.no_group;
+  no_flush = k.no_flush;
   numbered = k.numbered;
   bare = k.bare;
 }
@@ -103,6 +104,10 @@ gives_names s held group SyncDirectory later failed device made least = tt
 gives_names s held group AddRecords later failed device made least = tt
 gives_names s held group SyncLog later failed device made least = tt
 
+-- the number of a log that is made is below the end
+pub below_of : (s : State) (held : Option ℕ) (group : Group) (rest : List Act) → write_rest s held ≡ None → (ready s).jobs.write.running ≡ Some group → left_of group ≡ MakeLog ∷ rest → (ready s).numbers.next_file < 2 ^ 56
+below_of s held group rest none runs left = omega (arith, ready_file s, number_below s held group rest none runs left)
+
 done_unmoved : (s : State) → IsUnmoved s (call_done s)
 done_unmoved s = unmoved_on s (ready s) (call_done s) (unmoved_ready s.jobs.write.running s) (unmoved_done (ready s).jobs.write.running (ready s))
 
@@ -118,7 +123,7 @@ done_keeps s held group act later device made is h =
       cuts = cuts_stay (change_of (ready s) group act) went_well before behind kept.one_to_one kept.cuts step;
       numbered = omega (arith, kept.numbered, (unmoved_done (ready s).jobs.write.running (ready s)).files);
       none_boots = (unmoved_done (ready s).jobs.write.running (ready s)).resume ∙ kept.none_boots;
-      stored = group_done_stored (ready s) group act later made.makes.group_is made.makes.next before behind kept.one_to_one kept.cuts kept.stored step;
+      stored = group_done_stored (ready s) group act later made.makes.group_is made.makes.next (λ rest left. below_of s held group rest made.makes.no_rest made.makes.group_is left) before behind kept.one_to_one kept.cuts kept.stored step;
     }) h
 
 failed_keeps : (s : State) (held : Option ℕ) (failure : Failure) (group : Group) (act : Act) (later : List Act) (fault : Fault) (device : Seen) → failure ≡ failure_of fault
@@ -131,7 +136,7 @@ failed_keeps s held failure group act later fault device failure_is made is h =
       cuts = cuts_stay (change_of (ready s) group act) (went_wrong fault) before behind kept.one_to_one kept.cuts step;
       numbered = omega (arith, kept.numbered, (unmoved_failed (ready s).jobs.write.running (failure_of fault) (ready s)).files);
       none_boots = (unmoved_failed (ready s).jobs.write.running (failure_of fault) (ready s)).resume ∙ kept.none_boots;
-      stored = group_failed_stored (ready s) group act later fault made.makes.group_is made.makes.next before behind kept.one_to_one kept.cuts kept.stored step;
+      stored = group_failed_stored (ready s) group act later fault made.makes.group_is made.makes.next (λ rest left. below_of s held group rest made.makes.no_rest made.makes.group_is left) before behind kept.one_to_one kept.cuts kept.stored step;
     }) h)
 
 -- ---- the queue
@@ -145,7 +150,7 @@ turned_kept Open left state s failure device h = record {
   cuts = h.cuts;
   numbered = h.numbered;
   none_boots = h.none_boots;
-  stored = turned_keeps s.segments.active.log state s.levels s.story s.segments.immutable s.segments.active.batches s.writing.waiting (stopping s) s.jobs.write.running s.numbers.next_file s.numbers.in_tables h.stored;
+  stored = turned_keeps s.segments.active.log state s.levels s.story s.segments.immutable s.segments.active.batches s.writing.waiting (stopping s) s.jobs.write.running s.numbers.next_file s.numbers.in_tables s.jobs.flush.running s.numbers.manifest h.stored;
 }
 
 pub write_keeps : (s : State) (held : Option ℕ) (answer : WriteStep) (device : Seen) → is_open s.mode.phase ≡ true → WriteAnswers s held answer device → IsCovered s
@@ -186,7 +191,7 @@ queued_kept Open left state s batch device is none h = record {
   cuts = h.cuts;
   numbered = h.numbered;
   none_boots = h.none_boots;
-  stored = queued_keeps s.segments.active.log state s.levels s.story s.segments.immutable s.segments.active.batches s.writing.waiting (stopping s) s.jobs.write.running s.numbers.next_file s.numbers.in_tables
+  stored = queued_keeps s.segments.active.log state s.levels s.story s.segments.immutable s.segments.active.batches s.writing.waiting (stopping s) s.jobs.write.running s.numbers.next_file s.numbers.in_tables s.jobs.flush.running s.numbers.manifest
       (s.writing.last_ticket + 1) batch (sizes_within batch (sizes_none s batch none)) (within_sequences s batch none) h.stored;
 }
 

@@ -1,5 +1,5 @@
 -- What a boot has made of its files, by the calls that it has before it.
-use Rattle.std.specs.Prelude.{◌≡◌, ◌⊎◌, ℕ, ◌+◌, ◌^◌, ◌<◌, ◌≤◌, List, [], ◌∷◌, ◌++◌, All, length, map, Option, Some, None}
+use Rattle.std.specs.Prelude.{◌≡◌, ◌⊎◌, ℕ, ◌+◌, ◌^◌, ◌<◌, ◌≤◌, false, List, [], ◌∷◌, ◌++◌, All, length, map, Option, Some, None}
 use Rattle.std.specs.List.{AllByRecursion, flat_map}
 use Rattle.keel_base.specs.declared.file_name.FileName.{FileName}
 use Rattle.keel_base.specs.declared.file_name.FileName.TheVariants.{Log, Table, Manifest, Current, Temp}
@@ -20,7 +20,7 @@ use Rattle.keel_machine.specs.Resuming.{AreTables, batches_in}
 use Rattle.keel_machine.specs.States.{State, Story, Resumption, entries_in, point_of}
 use Rattle.keel_manifest.specs.declared.roll.RollCall.{RollCall}
 use Rattle.keel_manifest.specs.declared.roll.RollCall.TheVariants.{MakeManifest, AppendEdit, SyncManifest, MakeTemporary, AppendName, SyncTemporary, Rename, SyncDirectory}
-use Rattle.keel_resume.specs.Drafts.{Draft, bytes_in, count_ops, pieces_in}
+use Rattle.keel_draft.specs.Drafts.{Draft, bytes_in, count_ops, pieces_in}
 use Rattle.keel_resume.specs.Plans.{Job, AddPiece, SyncTable, SyncLogName, Rolls, edit_of, left_of, plan_of, roll_acts}
 use Rattle.keel_recovery.specs.Booting.{IsBooting, below}
 use Rattle.keel_disk.specs.Directory.{find}
@@ -49,12 +49,13 @@ pub record BootFacts (levels : List TableFile) (segments : List (List (List Op))
 
 -- ---- files
 
--- a file that was made since is there as read, firm in whole, with these bytes
+-- a file that was made since is there as read, firm in whole, with these bytes, and no call on it failed
 pub record IsMade (bound : ℕ) (name : FileName) (bytes : List ℕ) (state : Disk) : Type 0 where
   pub file : ℕ
   pub present : IsPresent name file state
   pub newer : bound ≤ file
   pub held : IsHeld (file_at file state.files) bytes
+  pub clean : (file_at file state.files).spoilt ≡ false
 
 -- whatever operations are done, no log has this file
 abbrev pub IsNoLog : ℕ → Disk → Type 0
@@ -237,3 +238,4 @@ pub record BootKept (s : State) (state : Disk) : Type 0 where
   pub none_active : s.segments.active.batches ≡ []
   pub none_waits : s.writing.waiting ≡ []
   pub no_group : s.jobs.write.running ≡ None
+  pub no_flush : s.jobs.flush.running ≡ None

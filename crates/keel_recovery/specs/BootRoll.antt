@@ -1,13 +1,13 @@
 -- What the edit of a boot's roll says.
-use Rattle.std.specs.Prelude.{◌≡◌, ℕ, ◌+◌, ◌^◌, ◌<◌, ◌≤◌, List, [], ◌∷◌, length, Some, Ok}
+use Rattle.std.specs.Prelude.{◌≡◌, ℕ, ◌+◌, ◌^◌, ◌<◌, ◌≤◌, List, [], ◌∷◌, All, length, Some, Ok}
 use Rattle.std.specs.List.{AllByRecursion}
 use Rattle.keel_base.specs.declared.op.Op.{Op}
-use Rattle.keel_edit.specs.Spelling.{IsEdit}
-use Rattle.keel_version.specs.Tables.{Contents, nothing}
+use Rattle.keel_edit.specs.Spelling.{IsAdded, IsEdit}
+use Rattle.keel_version.specs.Tables.{AreLevels, Contents, nothing}
 use Rattle.keel_directory.specs.TableFiles.{TableFile, open_sized}
 use Rattle.keel_machine.specs.Resuming.{made_in}
 use Rattle.keel_machine.specs.States.{Story, entries_in, point_of}
-use Rattle.keel_resume.specs.Drafts.{AreDraftsOf, with_new}
+use Rattle.keel_draft.specs.Drafts.{AreDraftsOf, with_new}
 use Rattle.keel_resume.specs.Plans.{Job, edit_of}
 use Rattle.keel_recovery.specs.BootCalls.{BootFacts, AreRising, AreOver}
 use Rattle.keel_recovery.specs.Roots.{Say, version_behind}
@@ -48,6 +48,8 @@ pub record Gives (levels : List TableFile) (story : Story) (job : Job) (log next
   pub version : version_behind nothing (edit_of job next_file ∷ []) ≡ Some (contents_behind levels job log next_file)
   pub opens : AllByRecursion (λ (table : TableFile). open_sized table.entry.size table.bytes ≡ Ok table.file) (made_in job)
   pub say : Say job.last_seq (levels_behind levels job) (point_of story)
+  pub order : AreLevels (entries_in (levels_behind levels job))
+  pub each : All IsAdded (entries_in (levels_behind levels job))
 
 abbrev pub RollGives : Type 0
 RollGives =

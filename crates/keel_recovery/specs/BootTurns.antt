@@ -11,9 +11,10 @@ use Rattle.keel_machine.specs.States.{State, Resumption, new_log, point_of}
 use Rattle.keel_recovery.specs.BootCalls.{BootKept}
 use Rattle.keel_recovery.specs.Calls.{AllReach, CanGrow}
 use Rattle.keel_recovery.specs.Chains.{Chained}
+use Rattle.keel_recovery.specs.Flushes.{HasFlush}
 use Rattle.keel_recovery.specs.Keeping.{Keeps}
 use Rattle.keel_recovery.specs.Roots.{Way}
-use Rattle.keel_resume.specs.Drafts.{Draft}
+use Rattle.keel_draft.specs.Drafts.{Draft}
 use Rattle.keel_resume.specs.Plans.{Act, change_of, failure_of}
 
 -- the log of a store whose boot has cleared, which has no batch yet
@@ -28,6 +29,7 @@ pub record IsCleared (s : State) (state : Disk) : Type 0 where
   pub keeps : Keeps (way ∷ []) (length s.story.log) (cleared_log log s ∷ []) s.levels s.story s.numbers.next_file state
   pub grows : CanGrow [] (cleared_log log s) 0 state
   pub reach : AllReach (way ∷ []) log
+  pub flushes : HasFlush way s.levels s.numbers.in_tables (cleared_log log s ∷ []) None None s.numbers.next_file s.numbers.manifest state
 
 -- by the calls left behind one that was answered Ok: the boot goes on, or it has cleared
 abbrev pub GoesOn : List Act → State → Disk → Type 0

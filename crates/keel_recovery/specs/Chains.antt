@@ -8,7 +8,7 @@ use Rattle.keel_disk.specs.State.{State, file_at}
 use Rattle.keel_disk.specs.Steady.{file_behind, IsSteady, IsGoing, IsFirmWhole}
 use Rattle.keel_frag.specs.Writing.{records_bytes}
 use Rattle.keel_batch.specs.Batches.{payloads_behind}
-use Rattle.keel_resume.specs.Drafts.{count_ops}
+use Rattle.keel_draft.specs.Drafts.{count_ops}
 
 -- A log, its batches, how many batches of the story come before them, and the number of the last op before them.
 pub record Chained : Type 0 where

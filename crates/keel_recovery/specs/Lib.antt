@@ -10,5 +10,8 @@ pub mod Calls
 pub mod BootTurns
 pub mod BootRoll
 pub mod Crashing
+pub mod FlushFiles
+pub mod FlushEdits
+pub mod Flushes
 pub mod Machine
 pub mod Worked

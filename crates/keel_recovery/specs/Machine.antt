@@ -21,6 +21,8 @@ use Rattle.keel_open.specs.declared.refusal.OpenRefusal.TheVariants as refusal
 use Rattle.keel_disk.specs.declared.rule.Arranged.TheVariants as arranged
 use Rattle.keel_disk.specs.declared.rule.Pick.{Pick}
 use Rattle.keel_disk.specs.Seen.{Seen, IsArranged}
+use Rattle.keel_flush.specs.Plans.{Job as FlushJob}
+use Rattle.keel_manifest.specs.State.{ManifestState}
 use Rattle.keel_machine.specs.Admission.{ops_of, batches_of_group, stopping}
 use Rattle.keel_machine.specs.Crash.{CrashAnswers, has_story}
 use Rattle.keel_base.specs.declared.options.Options.{Options}
@@ -30,27 +32,31 @@ use Rattle.keel_group.specs.Queue.{Ticketed}
 use Rattle.keel_machine.specs.States.{State, Footing, Known, Unknown, Mode, Phase, Shut, Booting, Open, is_open, is_left, unopened, Story, SegmentLog, Segment, Segments, Numbers, Group, Act, CloseLog, MakeLog, SyncDirectory, AddRecords, SyncLog, left_of, point_of}
 use Rattle.keel_machine.specs.declared.steps.ResumeStep.{ResumeStep}
 use Rattle.keel_machine.specs.declared.steps.ResumeStep.TheVariants as resume_step
+use Rattle.keel_machine.specs.declared.steps.JobStep.{JobStep}
+use Rattle.keel_machine.specs.declared.steps.JobStep.TheVariants as job_step
 use Rattle.keel_machine.specs.declared.steps.WriteStep.{WriteStep}
 use Rattle.keel_machine.specs.declared.steps.WriteStep.TheVariants as step
-use Rattle.keel_machine.specs.Turns.{Event, Opening, Writing, Resuming, Listing, Crashing, Finishing, Turn}
+use Rattle.keel_machine.specs.Turns.{Event, Opening, Writing, Resuming, Flushing, Listing, Arranging, Crashing, Finishing, Turn}
 use Rattle.keel_machine.specs.Writing.{ready, change_of}
 use Rattle.keel_machine.specs.WritingAfter.{MadeCall, call_done, call_failed, failure_of}
-use Rattle.keel_resume.specs.Drafts.{Draft}
+use Rattle.keel_draft.specs.Drafts.{Draft}
 use Rattle.keel_recovery.specs.BootCalls.{BootKept}
 use Rattle.keel_recovery.specs.BootLaws.{IsAfterCrash}
 use Rattle.keel_recovery.specs.Calls.{IsNewLog, AllReach, CanGrow}
 use Rattle.keel_recovery.specs.Chains.{Chained, IsWholeLog}
 use Rattle.keel_recovery.specs.Crashing.{InsideCall}
+use Rattle.keel_recovery.specs.Flushes.{HasFlush}
 use Rattle.keel_recovery.specs.Keeping.{Keeps}
 use Rattle.keel_recovery.specs.Roots.{Way, point_at}
 use Rattle.keel_recovery.specs.Standing.{Stands}
 
 -- what a caller may ask: a store is opened where none is open, and the other calls are those of an open one, but for
--- crashes and listings
+-- crashes, listings and what is arranged on the device
 abbrev pub MayCall : State → Event → Type 0
 MayCall s (Opening options answer) = is_open s.mode.phase ≡ false
 MayCall s (Listing answer) = Unit {0}
 MayCall s (Crashing pick kept) = Unit {0}
+MayCall s (Arranging rule answer) = Unit {0}
 MayCall s Finishing = ⊥
 MayCall s event = is_open s.mode.phase ≡ true
 
@@ -127,37 +133,41 @@ on_their_way story running waiting = story.limbo ++ (ops_of (batches_of_group ru
 abbrev pub AreOnTheirWay : Story → Option Group → List Ticketed → Type 0
 AreOnTheirWay story running waiting = AreBatches (point_of story).seq (on_their_way story running waiting)
 
--- that is so while writes aren't stopped; once they are no group is in flight
-abbrev pub UnlessStopped : Option Failure → Option Group → Type 0 → Type 0
-UnlessStopped None running goes = goes
-UnlessStopped (Some failure) running goes = running ≡ None
+-- that is so while a group is in flight, or writes aren't stopped
+abbrev pub WhileItGoes : Option Group → Option Failure → Type 0 → Type 0
+WhileItGoes (Some group) stops goes = goes
+WhileItGoes None None goes = goes
+WhileItGoes None (Some failure) goes = Unit {0}
 
--- The logs hold the batches of the segments and what is in limbo. While writes aren't stopped the last one can be appended to.
-pub record HasLog (log : SegmentLog) (state : Disk) (levels : List TableFile) (story : Story) (immutable : List Segment) (batches : List (List Op)) (waiting : List Ticketed) (stops : Option Failure) (running : Option Group) (next_file in_tables : ℕ) : Type 0 where
-  pub ways : List Way
+-- The logs hold the batches of the segments and what is in limbo. While writes aren't stopped, or a group is in flight, the last
+-- one can be appended to. The manifest in use, and the flush that runs, go with them.
+pub record HasLog (log : SegmentLog) (state : Disk) (levels : List TableFile) (story : Story) (immutable : List Segment) (batches : List (List Op)) (waiting : List Ticketed) (stops : Option Failure) (running : Option Group) (next_file in_tables : ℕ) (flush : Option FlushJob) (manifest : ManifestState) : Type 0 where
+  pub way : Way
   pub place : ℕ
   pub full : List Chained
   pub are_full : AreFull immutable full
   pub own : Chained
   pub number_is : own.number ≡ log.number
   pub batches_are : own.batches ≡ batches ++ story.limbo
-  pub keeps : Keeps ways place (full ++ own ∷ []) levels story next_file state
-  pub reach : AllReach ways own.number
+  pub keeps : Keeps (way ∷ []) place (full ++ own ∷ []) levels story next_file state
+  pub reach : AllReach (way ∷ []) own.number
   pub tables_to : (point_at place story).seq ≡ in_tables
-  pub order : UnlessStopped stops running (CanGrow full own log.size state × IsAt state story next_file own running × AreOnTheirWay story running waiting)
+  pub flushes : HasFlush way levels in_tables (full ++ own ∷ []) stops flush next_file manifest state
+  pub order : WhileItGoes running stops (CanGrow full own log.size state × IsAt state story next_file own running × AreOnTheirWay story running waiting)
 
-abbrev pub HoldsBy : Option SegmentLog → Disk → List TableFile → Story → List Segment → List (List Op) → List Ticketed → Option Failure → Option Group → ℕ → ℕ → Type 0
-HoldsBy None state levels story immutable batches waiting stops running next_file in_tables = ⊥
-HoldsBy (Some log) state levels story immutable batches waiting stops running next_file in_tables =
-    HasLog log state levels story immutable batches waiting stops running next_file in_tables
+abbrev pub HoldsBy : Option SegmentLog → Disk → List TableFile → Story → List Segment → List (List Op) → List Ticketed → Option Failure → Option Group → ℕ → ℕ → Option FlushJob → ManifestState → Type 0
+HoldsBy None state levels story immutable batches waiting stops running next_file in_tables flush manifest = ⊥
+HoldsBy (Some log) state levels story immutable batches waiting stops running next_file in_tables flush manifest =
+    HasLog log state levels story immutable batches waiting stops running next_file in_tables flush manifest
 
 -- what its logs hold, of the parts that it is about
-abbrev pub IsStoredIn : Disk → List TableFile → Story → Segments → List Ticketed → Option Failure → Option Group → Numbers → Type 0
-IsStoredIn state levels story segments waiting stops running numbers =
-    HoldsBy segments.active.log state levels story segments.immutable segments.active.batches waiting stops running numbers.next_file numbers.in_tables
+abbrev pub IsStoredIn : Disk → List TableFile → Story → Segments → List Ticketed → Option Failure → Option Group → Numbers → Option FlushJob → Type 0
+IsStoredIn state levels story segments waiting stops running numbers flush =
+    HoldsBy segments.active.log state levels story segments.immutable segments.active.batches waiting stops running numbers.next_file numbers.in_tables flush
+    numbers.manifest
 
 abbrev pub IsStored : Disk → State → Type 0
-IsStored state s = IsStoredIn state s.levels s.story s.segments s.writing.waiting (stopping s) s.jobs.write.running s.numbers
+IsStored state s = IsStoredIn state s.levels s.story s.segments s.writing.waiting (stopping s) s.jobs.write.running s.numbers s.jobs.flush.running
 
 -- The device of a store that writes: names and files go one to one, the next file has a number, and its logs hold the story. No
 -- boot runs.
@@ -298,6 +308,17 @@ abbrev pub ResumesAreSafe : Type 0
 ResumesAreSafe =
     (s next : State) (drafts : List Draft) (held : Option ℕ) (made : ResumeStep)
     → is_open s.mode.phase ≡ true → Turn s (Resuming drafts held made) next → IsCovered s → ResumeIsSafe s made next
+
+-- A crash inside the call of a flush step is as safe: the story stays.
+abbrev pub FlushIsSafe : State → JobStep → State → Type 0
+FlushIsSafe s (job_step.Moved job call) next = CrashesWithin s.footing s.device.told next.device.told s.story next.story
+FlushIsSafe s (job_step.Done job) next = CrashesWithin s.footing s.device.told next.device.told s.story next.story
+FlushIsSafe s (job_step.Failed failure) next = CrashesWithin s.footing s.device.told next.device.told s.story next.story
+FlushIsSafe s made next = Unit {0}
+
+abbrev pub FlushesAreSafe : Type 0
+FlushesAreSafe =
+    (s next : State) (draft : Draft) (held : Option ℕ) (made : JobStep) → Turn s (Flushing draft held made) next → IsCovered s → FlushIsSafe s made next
 
 -- the device of an open store that is known bears out what reads say
 abbrev pub CoveredBears : Type 0

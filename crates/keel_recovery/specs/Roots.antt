@@ -38,7 +38,7 @@ pub record IsWay (way : Way) (state : State) : Type 0 where
   pub are_edits : AllByRecursion IsEdit way.edits
   pub meant_is : (file_at way.file state.files).meant ≡ records_bytes 0 (map spelling way.edits)
   pub firm_to : size_of_first way.firm (map spelling way.edits) ≤ (file_at way.file state.files).firm
-  pub read_is : (file_at way.file state.files).read ≡ (file_at way.file state.files).meant
+  pub read_to : size_of_first way.firm (map spelling way.edits) ≤ length (file_at way.file state.files).read
   pub not_cut : has_waiting_cut way.file state.waiting ≡ false
 
 -- behind so many of the waiting operations CURRENT names it, and it is there

@@ -1,7 +1,7 @@
 // What a device keeps of a story, and what follows, each as the contract of a function: a proof that needs one calls it.
 ghost use Rattle.keel_recovery.specs.Calls.{CreateKeeps, CreateMakes, LogAppendKeeps, LogSyncKeeps, PublishKeeps, SyncDirKeeps};
 ghost use Rattle.keel_recovery.specs.Laws.{CallLeavesPrefix, CrashLeavesPrefix, KeepingStands, ReadingLeavesPrefix, WayIsRead, WayReads};
-ghost use Rattle.keel_recovery.specs.Machine.{CoveredBears, CoveredReads, CoveredStands, CrashTurns, FootingStays, InsideStep, OpeningBoots, OpeningGoesOn, ResumesAreSafe, StartsCovered, StepsAreSafe, TurnKeeps};
+ghost use Rattle.keel_recovery.specs.Machine.{CoveredBears, CoveredReads, CoveredStands, CrashTurns, FlushesAreSafe, FootingStays, InsideStep, OpeningBoots, OpeningGoesOn, ResumesAreSafe, StartsCovered, StepsAreSafe, TurnKeeps};
 ghost use Rattle.keel_recovery.specs.Worked.{EmptyIsFirst, TwoPuts};
 
 /// Where CURRENT names a manifest with edits of which each gives a version that the logs go on from, an image that a crash
@@ -134,4 +134,9 @@ pub fn turn_keeps()
 /// A crash inside the call of a resume step leaves a prefix of the story before it or behind it.
 pub fn resumes_are_safe()
     ensures { ResumesAreSafe }
+{}
+
+/// A crash inside the call of a flush step leaves a prefix of the story.
+pub fn flushes_are_safe()
+    ensures { FlushesAreSafe }
 {}

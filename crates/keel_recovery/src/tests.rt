@@ -1,4 +1,4 @@
-use crate::laws;
+use crate::{flush_laws, laws};
 
 #[test]
 fn stories_and_devices() {
@@ -29,6 +29,7 @@ fn the_machine() {
     laws::crash_turns();
     laws::inside_step();
     laws::steps_are_safe();
+    laws::flushes_are_safe();
     laws::covered_reads();
     laws::opening_goes_on();
     laws::footing_stays();
@@ -38,4 +39,20 @@ fn the_machine() {
 fn worked_examples() {
     laws::two_puts();
     laws::empty_is_first();
+}
+
+#[test]
+fn flushes() {
+    flush_laws::tables_are_below();
+    flush_laws::table_create_keeps();
+    flush_laws::table_append_keeps();
+    flush_laws::table_sync_keeps();
+    flush_laws::table_name_keeps();
+    flush_laws::table_stays();
+    flush_laws::logs_stay();
+    flush_laws::edit_append_keeps();
+    flush_laws::edit_sync_keeps();
+    flush_laws::open_way_stays();
+    flush_laws::edit_gives();
+    flush_laws::flush_ends();
 }
