@@ -4,7 +4,6 @@ use Rattle.std.proofs.lemmas.Bool.{ltb-true, leb-true}
 use Rattle.std.specs.List.{AllByRecursion, list_any}
 use Rattle.keel_base.specs.declared.listing.Entry.{Entry}
 use Rattle.keel_base.specs.declared.failure.Failure.{Failure}
-use Rattle.keel_base.specs.declared.failure.Fault.{Fault}
 use Rattle.keel_base.specs.declared.op.Batch.{Batch}
 use Rattle.keel_disk.specs.declared.error.DiskError.{DiskError}
 use Rattle.keel_disk.specs.Counts.{disk_fault}
@@ -21,15 +20,14 @@ use Rattle.keel_machine.specs.States as machine
 use Rattle.keel_machine.specs.States.{State}
 use Rattle.keel_machine.specs.Tests.{first_some, when}
 use Rattle.keel_machine.specs.Turns.{Event, Answers, after, Admitting, Listing, TakingOutcome}
-use Rattle.keel_machine.specs.WritingAfter.{failure_of}
 use Rattle.keel_group.specs.Queue.{Ticketed, ticketed, batches_of, tickets_of}
 use Rattle.keel_mem.specs.Totals.{weight_of}
-use Rattle.keel_resume.specs.Drafts.{count_ops}
+use Rattle.keel_draft.specs.Drafts.{count_ops}
 use Rattle.keel_core.specs.Flights.{FlightShown, IsPlanned, batches_flying, group_of, running_of, tickets_flying}
-use Rattle.keel_core.specs.Orders.{IsSettled, IsStaged}
+use Rattle.keel_core.specs.Orders.{IsSettled}
 use Rattle.keel_core.specs.Queues.{on_its_way, outcome_told}
-use Rattle.keel_core.specs.Views.{Beyond, BootShown, ToStart, Running, Over, Cleared, CoreView, StandsFor, Fits, TakesTurn, is_store_full, state_of, last_in, calls_in, takes_writes}
-use Rattle.keel_core.proofs.Resting.{stopping_is}
+use Rattle.keel_core.specs.Views.{Beyond, BootShown, ToStart, Running, Over, Cleared, CoreView, StandsFor, Fits, IsOnPlan, TakesTurn, is_store_full, stopping_in, state_of, last_in, calls_in, takes_writes}
+use Rattle.keel_core.proofs.Failing.{stopping_same}
 use Rattle.keel_core.proofs.Segmenting.{active_weighs, as_many}
 use Rattle.keel_core.proofs.Standing.{left_is}
 use Rattle.keel_core.proofs.Stories.{last_same}
@@ -49,7 +47,7 @@ pub listed_goes : (view : CoreView) (device : Seen) (answer : Result (List Entry
     → IsQuiet view.device (disk_fault answer) device → TakesTurn view (Listing answer) (record view { device = device })
 listed_goes view device answer tells order quiet = turns_by_story view (record view { device = device }) (Listing answer) (λ beyond fits. (
   record { tells = tells; order = order; quiet = quiet },
-  record { beyond = beyond; state_is = refl; fits = record { story = fits.story; segments = fits.segments; tables = fits.tables; opened = fits.opened; leads = fits.leads } },
+  record { beyond = beyond; state_is = refl; fits = record { story = fits.story; segments = fits.segments; tables = fits.tables; opened = fits.opened; leads = fits.leads; met = fits.met; handled = fits.handled; flushes = fits.flushes } },
 ))
 
 -- ---- a batch is queued
@@ -128,7 +126,7 @@ abbrev pub tests_of : CoreView → Batch → ℕ → Tests
 tests_of view batch brought = record {
   size = size_refusal batch;
   booting = false;
-  stopping = option_map failure_of view.failed;
+  stopping = stopping_in view;
   sequence = nat_lt (2 ^ 56) brought;
   ticket = nat_le (2 ^ 56) view.last_ticket;
   full = is_store_full view;
@@ -154,7 +152,7 @@ refusal_is : (view : CoreView) (boot : BootShown) (batch : Batch) (last_seq hand
 refusal_is view Cleared batch last_seq handed_seq beyond cleared fits last handed =
     let weight = active_weighs beyond.in_tables view.immutable beyond.immutable view.rows beyond.active _ fits.segments in
     let others = as_many beyond.in_tables view.immutable beyond.immutable view.rows beyond.active _ fits.segments in
-    let stopping = stopping_is view.options.paranoid view.failed in
+    let stopping = stopping_same view.options beyond.failures view.handler fits.handled in
     let seq = seq_is (record view { boot = Cleared }) batch last_seq handed_seq beyond fits last handed in
     λ i. answer_of (record {
       size = size_refusal batch;
@@ -170,10 +168,10 @@ refusal_is view Cleared batch last_seq handed_seq beyond cleared fits last hande
     })
 refusal_is view ToStart batch last_seq handed_seq beyond cleared fits last handed = absurd (cc cleared)
 refusal_is view (Running resumption) batch last_seq handed_seq beyond cleared fits last handed = absurd (cc cleared)
-refusal_is view (Over failure) batch last_seq handed_seq beyond cleared fits last handed = absurd (cc cleared)
+refusal_is view Over batch last_seq handed_seq beyond cleared fits last handed = absurd (cc cleared)
 
-same_stands : (view : CoreView) (beyond : Beyond) → Fits view beyond → StandsFor view (state_of view beyond)
-same_stands view beyond fits = record { beyond = beyond; state_is = refl; fits = record { story = fits.story; segments = fits.segments; tables = fits.tables; opened = fits.opened; leads = fits.leads } }
+pub same_stands : (view : CoreView) (beyond : Beyond) → Fits view beyond → StandsFor view (state_of view beyond)
+same_stands view beyond fits = record { beyond = beyond; state_is = refl; fits = record { story = fits.story; segments = fits.segments; tables = fits.tables; opened = fits.opened; leads = fits.leads; met = fits.met; handled = fits.handled; flushes = fits.flushes } }
 
 -- a refusal behind the test of the size
 abbrev pub IsRefusal : Admit → Type 0
@@ -207,12 +205,12 @@ answers_at t u answer same is = ap answer_of same ∙ is
 abbrev calm_tests : CoreView → Batch → ℕ → Bool → Bool → Bool → Bool → Tests
 calm_tests view batch brought sequence ticket full queue = record (tests_of view batch brought) { size = None; stopping = None; sequence = sequence; ticket = ticket; full = full; queue = queue }
 
-calm_same : (view : CoreView) (batch : Batch) (brought : ℕ) (a b c d : Bool) → size_refusal batch ≡ None → view.failed ≡ None
+calm_same : (view : CoreView) (batch : Batch) (brought : ℕ) (a b c d : Bool) → size_refusal batch ≡ None → stopping_in view ≡ None
     → nat_lt (2 ^ 56) brought ≡ a → nat_le (2 ^ 56) view.last_ticket ≡ b → is_store_full view ≡ c → nat_le 64 (length view.waiting) ≡ d
     → tests_of view batch brought ≡ calm_tests view batch brought a b c d
 calm_same view batch brought a b c d sized calm p q r s = λ i. record (tests_of view batch brought) {
   size = sized i;
-  stopping = option_map failure_of (calm i);
+  stopping = calm i;
   sequence = p i;
   ticket = q i;
   full = r i;
@@ -220,17 +218,17 @@ calm_same view batch brought a b c d sized calm p q r s = λ i. record (tests_of
 }
 
 -- a failure stands
-pub stopped_goes : (view : CoreView) (batch : Batch) (last_seq handed_seq : ℕ) (fault : Fault) → IsKnown view last_seq handed_seq → size_refusal batch ≡ None → view.failed ≡ Some fault
-    → TakesTurn view (Admitting batch (Stopped (failure_of fault))) view
-stopped_goes view batch last_seq handed_seq fault known sized failed =
-    refused_goes view batch last_seq handed_seq (Stopped (failure_of fault)) known tt
-    (λ i. answer_of (record (tests_of view batch (seq_brought view batch handed_seq)) { size = sized i; stopping = option_map failure_of (failed i) }))
+pub stopped_goes : (view : CoreView) (batch : Batch) (last_seq handed_seq : ℕ) (failure : Failure) → IsKnown view last_seq handed_seq → size_refusal batch ≡ None → stopping_in view ≡ Some failure
+    → TakesTurn view (Admitting batch (Stopped failure)) view
+stopped_goes view batch last_seq handed_seq failure known sized stands =
+    refused_goes view batch last_seq handed_seq (Stopped failure) known tt
+    (λ i. answer_of (record (tests_of view batch (seq_brought view batch handed_seq)) { size = sized i; stopping = stands i }))
 
 -- what the code knows behind the tests of size and failure
 pub record IsTested (view : CoreView) (batch : Batch) (last_seq handed_seq : ℕ) : Type 0 where
   pub known : IsKnown view last_seq handed_seq
   pub sized : size_refusal batch ≡ None
-  pub calm : view.failed ≡ None
+  pub calm : stopping_in view ≡ None
 
 pub seq_spent : (view : CoreView) (batch : Batch) (last_seq handed_seq : ℕ) → IsTested view batch last_seq handed_seq → 2 ^ 56 < seq_brought view batch handed_seq
     → TakesTurn view (Admitting batch (Spent Sequence)) view
@@ -278,7 +276,7 @@ queued_goes view batch last_seq handed_seq t enough ticket room few =
         ),
         refl,
       ),
-      record { beyond = beyond; state_is = refl; fits = record { story = fits.story; segments = fits.segments; tables = fits.tables; opened = fits.opened; leads = fits.leads } },
+      record { beyond = beyond; state_is = refl; fits = record { story = fits.story; segments = fits.segments; tables = fits.tables; opened = fits.opened; leads = fits.leads; met = fits.met; handled = fits.handled; flushes = fits.flushes } },
     ))
 
 -- a store that boots takes none
@@ -290,7 +288,7 @@ booting_is : (view : CoreView) (boot : BootShown) (batch : Batch) (beyond : Beyo
 booting_is view Cleared batch beyond boots sized = absurd (cc boots)
 booting_is view ToStart batch beyond boots sized = boots_first (size_refusal batch) _ sized
 booting_is view (Running resumption) batch beyond boots sized = boots_first (size_refusal batch) _ sized
-booting_is view (Over failure) batch beyond boots sized = boots_first (size_refusal batch) _ sized
+booting_is view Over batch beyond boots sized = boots_first (size_refusal batch) _ sized
 
 pub boots_goes : (view : CoreView) (batch : Batch) → takes_writes view.boot ≡ false → size_refusal batch ≡ None → TakesTurn view (Admitting batch Booting) view
 boots_goes view batch boots sized = turns_by_story view view (Admitting batch Booting) (λ beyond fits.
@@ -300,7 +298,7 @@ pub is_clear : (boot : BootShown) → takes_writes boot ≡ true → boot ≡ Cl
 is_clear Cleared is = refl
 is_clear ToStart is = absurd (cc is)
 is_clear (Running resumption) is = absurd (cc is)
-is_clear (Over failure) is = absurd (cc is)
+is_clear Over is = absurd (cc is)
 
 -- ---- an outcome is taken
 
@@ -316,7 +314,7 @@ taken_goes view ticket told is =
         is ∙ ap (λ b. unwrap_or (outcome_kept ticket view.outcomes) (if b then outcome.Waiting else outcome.Unknown)) (same_way ticket view.group view.waiting),
         refl,
       ),
-      record { beyond = beyond; state_is = refl; fits = record { story = fits.story; segments = fits.segments; tables = fits.tables; opened = fits.opened; leads = fits.leads } },
+      record { beyond = beyond; state_is = refl; fits = record { story = fits.story; segments = fits.segments; tables = fits.tables; opened = fits.opened; leads = fits.leads; met = fits.met; handled = fits.handled; flushes = fits.flushes } },
     ))
 
 kept_settled : (ticket : ℕ) (outcomes : List (ℕ × Outcome)) → AllByRecursion (λ (entry : ℕ × Outcome). IsSettled entry.1) outcomes
@@ -337,21 +335,21 @@ one_call flight planned =
     let left = ap (λ (l : List machine.Act). length l) (left_is flight.next flight.switches flight.sync planned) in
     omega (arith, left)
 
-some_left : (group : Option FlightShown) (waiting : List Ticketed) (ticket : ℕ) (failed : Option Fault) → IsStaged group failed
+some_left : (group : Option FlightShown) (waiting : List Ticketed) (ticket : ℕ) → IsOnPlan group
     → (if on_its_way ticket group waiting then outcome.Waiting else outcome.Unknown) ≡ outcome.Waiting
     → 0 < calls_in group + 6 * length waiting
-some_left None [] ticket failed staged is = absurd cc
-some_left None (first ∷ rest) ticket failed staged is = omega arith
-some_left (Some flight) waiting ticket failed staged is = omega (arith, one_call flight staged.0)
+some_left None [] ticket staged is = absurd cc
+some_left None (first ∷ rest) ticket staged is = omega arith
+some_left (Some flight) waiting ticket staged is = omega (arith, one_call flight staged)
 
 -- a ticket whose outcome is awaited is on its way
-pub waits_left : (group : Option FlightShown) (waiting : List Ticketed) (outcomes : List (ℕ × Outcome)) (ticket : ℕ) (failed : Option Fault) → IsStaged group failed
+pub waits_left : (group : Option FlightShown) (waiting : List Ticketed) (outcomes : List (ℕ × Outcome)) (ticket : ℕ) → IsOnPlan group
     → AllByRecursion (λ (entry : ℕ × Outcome). IsSettled entry.1) outcomes
     → outcome_told ticket outcomes group waiting ≡ outcome.Waiting → 0 < calls_in group + 6 * length waiting
-waits_left group waiting outcomes ticket failed staged all is =
+waits_left group waiting outcomes ticket staged all is =
     let otherwise : Option Outcome → Outcome = λ o. unwrap_or o (if on_its_way ticket group waiting then outcome.Waiting else outcome.Unknown) in
     kept_settled ticket outcomes all (0 < calls_in group + 6 * length waiting)
-    (λ none. some_left group waiting ticket failed staged (ap otherwise (sym none) ∙ is))
+    (λ none. some_left group waiting ticket staged (ap otherwise (sym none) ∙ is))
     (λ o some settled. absurd (unsettled o (ap otherwise (sym some) ∙ is) settled))
 
 pub where_ok : {T E P : Type 0} (r : Result T E) → is_err r ≡ false → OnOk r P → P

@@ -9,7 +9,6 @@ use Rattle.keel_levels.specs.declared.live.LiveTable.{LiveTable}
 use Rattle.keel_levels.specs.Live.{ScansAll, Yields, rows_of as level_rows, scan_fault, tables_of}
 use Rattle.keel_levels.specs.Ranges.{between}
 use Rattle.keel_machine.specs.declared.answers.Scanned.{Scanned}
-use Rattle.keel_machine.specs.declared.answers.Scanned.TheVariants.{OutOfMemory}
 use Rattle.keel_machine.specs.Reads.{AreRowsOf, BearsOut, IsBorne, ScanAnswers, WhereKnown, contents}
 use Rattle.keel_machine.specs.States.{State}
 use Rattle.keel_machine.specs.Turns.{Answers, after, Scanning}
@@ -66,6 +65,6 @@ scanned_goes view from to device tables front result scanned ranges is scans sam
             (scan_fault result) says)
             borne (says_behind view beyond tables Says fits reads borne))
             quiet,
-        record { beyond = beyond; state_is = refl; fits = record { story = fits.story; segments = fits.segments; tables = same ∙ fits.tables; opened = opened_behind view beyond tables Says fits reads borne; leads = leads_behind view.boot view.levels tables same fits.leads } },
+        record { beyond = beyond; state_is = refl; fits = record { story = fits.story; segments = fits.segments; tables = same ∙ fits.tables; opened = opened_behind view beyond tables Says fits reads borne; leads = leads_behind view.boot view.levels tables same fits.leads; met = fits.met; handled = fits.handled; flushes = fits.flushes } },
       ));
 }

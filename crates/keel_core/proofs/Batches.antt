@@ -7,7 +7,7 @@ use Rattle.keel_base.specs.Weight.{AreAdmissible, IsWithinLimits}
 use Rattle.keel_batch.specs.Spelling.{IsBatch, IsOp}
 use Rattle.keel_group.specs.Queue.{Ticketed, batches_of}
 use Rattle.keel_machine.specs.Admission.{ops_of}
-use Rattle.keel_resume.specs.Drafts.{count_ops}
+use Rattle.keel_draft.specs.Drafts.{count_ops}
 use Rattle.keel_core.specs.Flights.{FlightShown, batches_flying}
 use Rattle.keel_core.specs.Queues.{batches_next}
 use Rattle.keel_core.proofs.Entering.{are_same}

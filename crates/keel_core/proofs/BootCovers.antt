@@ -1,5 +1,5 @@
 -- The tables of segments' rows are those of their batches.
-use Rattle.std.proofs.Common.{◌≡◌, ◌≢◌, Option, ℕ, ◌+◌, ◌<◌, List, [], ◌∷◌, ◌++◌, length, min, max, refl, sym, ap, subst, ◌∙◌, arith, append_assoc, append-nil}
+use Rattle.std.proofs.Common.{◌≡◌, ◌≢◌, Option, ℕ, ◌+◌, List, [], ◌∷◌, ◌++◌, length, refl, sym, ap, subst, ◌∙◌, arith, append_assoc, append-nil}
 use Rattle.std.proofs.lemmas.List.{length-append, length-map}
 use Rattle.keel_base.specs.declared.op.Op.{Op}
 use Rattle.keel_base.specs.declared.op.Op.TheVariants.{Put, Del}
@@ -8,8 +8,7 @@ use Rattle.keel_base.specs.Rows.{op_row, op_rows}
 use Rattle.keel_machine.specs.Resuming.{batches_in}
 use Rattle.keel_machine.specs.States.{Segment}
 use Rattle.keel_mem.specs.Totals.{least_seq, greatest_seq, weight_of}
-use Rattle.keel_resume.specs.Drafts.{AreDraftsOf, AreNewestOf, Draft, IsDraftOf, batch_rows, count_ops, rows_in}
-use Rattle.keel_resume.specs.Jobs.{IsTableFor}
+use Rattle.keel_draft.specs.Drafts.{AreDraftsOf, AreNewestOf, Draft, IsDraftOf, IsTableFor, batch_rows, count_ops, rows_in}
 use Rattle.keel_resume.specs.Plans.{Job, job_of}
 use Rattle.keel_edit.specs.declared.edit.Added.{Added}
 use Rattle.keel_levels.specs.declared.live.LiveTable.{LiveTable}
@@ -63,7 +62,7 @@ ends : (seq many : ℕ) (rows : List Row) → rows ≢ [] → AreNumbered (seq +
 ends seq many [] some h is = absurd (some refl)
 ends seq many (row ∷ rows) some h is = (least_is (seq + 1) row rows h, omega (arith, is, greatest_is (seq + 1) row rows h))
 
-draft_is : (seq : ℕ) (batches : List (List Op)) (rows : List Row) (draft : Draft) → rows ≡ batch_rows (seq + 1) batches → rows ≢ [] → IsTableFor rows draft → IsDraftOf seq batches draft
+pub draft_is : (seq : ℕ) (batches : List (List Op)) (rows : List Row) (draft : Draft) → rows ≡ batch_rows (seq + 1) batches → rows ≢ [] → IsTableFor rows draft → IsDraftOf seq batches draft
 draft_is seq batches rows draft is some t =
     let at = ends seq (count_ops batches) rows some (subst (AreNumbered (seq + 1)) (sym is) (numbered (seq + 1) batches)) (ap (λ (l : List Row). length l) is ∙ length-batch_rows (seq + 1) batches) in
     record {

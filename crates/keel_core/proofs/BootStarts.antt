@@ -1,5 +1,5 @@
 -- The first step of a boot is that of the boot that it begins.
-use Rattle.std.proofs.Common.{◌≡◌, ℕ, ◌+◌, ◌<◌, ◌^◌, ◌&&◌, nat_le, Bool, true, false, List, [], ◌∷◌, length, map, Option, Some, None, Result, Ok, Err, refl, sym, ap, subst, ◌∙◌, arith}
+use Rattle.std.proofs.Common.{◌≡◌, ℕ, ◌+◌, ◌<◌, ◌^◌, ◌&&◌, nat_le, Bool, true, false, List, [], ◌∷◌, length, Option, Some, None, Result, Ok, Err, refl, sym, ap, subst, ◌∙◌, arith}
 use Rattle.std.proofs.lemmas.Bool.{leb-true}
 use Rattle.std.proofs.lemmas.List.{length-map}
 use Rattle.keel_base.specs.declared.failure.Counter.TheVariants.{FileNumber}
@@ -10,15 +10,14 @@ use Rattle.keel_levels.specs.declared.live.LiveTable.{LiveTable}
 use Rattle.keel_levels.specs.Live.{tables_of}
 use Rattle.keel_machine.specs.declared.steps.ResumeStep.{ResumeStep}
 use Rattle.keel_machine.specs.declared.steps.ResumeStep.TheVariants as step
-use Rattle.keel_machine.specs.Admission.{last_seq}
 use Rattle.keel_machine.specs.Outside.{as_answer}
 use Rattle.keel_machine.specs.Resuming as machine
 use Rattle.keel_machine.specs.Resuming.{AreTables, ResumeAnswers, boot_done, boot_failed, resume_after, resume_ready, resume_rest}
-use Rattle.keel_machine.specs.States.{State, Resumption, entries_in, with_device}
+use Rattle.keel_machine.specs.States.{State, Resumption, with_device}
 use Rattle.keel_machine.specs.Tests.{first_some, when}
 use Rattle.keel_machine.specs.Turns.{Answers, after}
 use Rattle.keel_machine.specs.Turns as turns
-use Rattle.keel_resume.specs.Drafts.{Draft}
+use Rattle.keel_draft.specs.Drafts.{Draft}
 use Rattle.keel_resume.specs.Plans.{change_of, job_of, left_of}
 use Rattle.keel_resume.specs.Jobs.{draws_next}
 use Rattle.keel_core.specs.Covering.{AreNewTables, AreTablesFor}
@@ -107,6 +106,7 @@ module _ (view : CoreView) (drafts : List Draft) (are : AreTablesFor view.immuta
   ready_same beyond fits = λ i. record (state_of in_boot beyond) {
     jobs = record {
       write = (state_of in_boot beyond).jobs.write;
+      flush = (state_of in_boot beyond).jobs.flush;
       resume = record {
         number = view.boot_job + 1;
         running = Some (record { steps = 0; job = job_of (sym fits.tables i) (last_same view.trail beyond.story fits.story i) drafts });
@@ -133,7 +133,7 @@ module _ (view : CoreView) (drafts : List Draft) (are : AreTablesFor view.immuta
       let stood : StandsFor in_boot r = record {
         beyond = beyond;
         state_is = refl;
-        fits = record { story = fits.story; segments = fits.segments; tables = fits.tables; opened = fits.opened; leads = refl };
+        fits = record { story = fits.story; segments = fits.segments; tables = fits.tables; opened = fits.opened; leads = refl; met = fits.met; handled = fits.handled; flushes = fits.flushes };
       } in
       let rests : resume_rest r drafts None ≡ None = boot_rest_same in_boot r drafts None stood ∙ no_spent (draws_next (left_of begun.job)) (nat_le (2 ^ 56) view.next_file) (not_le (2 ^ 56) view.next_file below) in
       let inner = step_goes.goes r None stood rests in

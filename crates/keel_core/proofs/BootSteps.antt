@@ -1,6 +1,5 @@
 -- A call of the boot is a step of the machine, over plain values.
-use Rattle.std.proofs.Common.{◌≡◌, ℕ, ◌+◌, ◌<◌, ◌^◌, ◌==◌, not, cond, Bool, true, false, List, [], ◌∷◌, ◌++◌, length, map, filter, Option, Some, None, Ok, Err, option_map, refl, sym, ap, subst, ◌∙◌, arith, add-zero}
-use Rattle.keel_base.specs.declared.failure.Call.{Call}
+use Rattle.std.proofs.Common.{◌≡◌, ◌≢◌, ℕ, ◌+◌, ◌==◌, not, cond, Bool, true, false, List, [], ◌∷◌, ◌++◌, length, filter, Option, Some, None, Ok, Err, refl, sym, ap, subst, ◌∙◌, arith, add-zero}
 use Rattle.keel_base.specs.declared.failure.Failure.{Failure}
 use Rattle.keel_base.specs.declared.failure.Fault.{Fault}
 use Rattle.keel_directory.specs.TableFiles.{TableFile}
@@ -9,7 +8,6 @@ use Rattle.keel_disk.specs.Seen.{Calls, Seen}
 use Rattle.keel_edit.specs.declared.edit.Added.{Added}
 use Rattle.keel_machine.specs.declared.steps.ResumeStep.{ResumeStep}
 use Rattle.keel_machine.specs.declared.steps.ResumeStep.TheVariants as step
-use Rattle.keel_machine.specs.Admission.{last_seq}
 use Rattle.keel_machine.specs.Outside.{as_answer}
 use Rattle.keel_machine.specs.Resuming as machine
 use Rattle.keel_machine.specs.Resuming.{AreDrafts, cleared_story, made_in, resume_rest}
@@ -18,15 +16,17 @@ use Rattle.keel_machine.specs.States.{State, Footing, Known, Unknown, Resumption
 use Rattle.keel_machine.specs.Reads.{WhereKnown}
 use Rattle.keel_machine.specs.Turns.{Answers, after}
 use Rattle.keel_machine.specs.Turns as turns
-use Rattle.keel_levels.specs.declared.live.LiveTable.{LiveTable}
-use Rattle.keel_levels.specs.Live.{AreOpened, tables_of as entries_shown}
-use Rattle.keel_resume.specs.Drafts.{Draft, added_of, file_of, numbered, with_new}
-use Rattle.keel_resume.specs.Jobs.{tables_of}
+use Rattle.std.proofs.lemmas.List.{length-append}
+use Rattle.keel_flush.specs.Plans.{Job as FlushJob}
+use Rattle.keel_levels.specs.Live.{AreOpened}
+use Rattle.keel_draft.specs.Drafts.{Draft, added_of, file_of, numbered, with_new}
+use Rattle.keel_resume.specs.Jobs.{manifest_behind, manifest_tried, tables_of}
 use Rattle.keel_resume.specs.Plans.{Act, Job, call_of, change_of, failure_of, left_of, moved, next_behind}
+use Rattle.keel_core.specs.Failing.{noted}
 use Rattle.keel_core.specs.Resuming.{MakesCall, cleared, with_boot}
 use Rattle.keel_core.specs.Tables.{unopened}
-use Rattle.keel_core.specs.Trails as trails
-use Rattle.keel_core.specs.Views.{Beyond, BootShown, Running, Over, Cleared, CoreView, Fits, StandsFor, last_in, state_of}
+use Rattle.keel_core.specs.Views.{Beyond, Running, Over, Cleared, CoreView, Fits, IsFlushing, StandsFor, last_in, state_of}
+use Rattle.keel_core.proofs.Failing.{handler_cleared, handler_noted}
 use Rattle.keel_core.proofs.Stories.{cleared_on, last_same}
 use Rattle.keel_core.proofs.Unopened.{none_opened, tables_unopened}
 
@@ -60,21 +60,32 @@ entries-numbered [] drafts = refl
 entries-numbered (number ∷ numbers) [] = refl
 entries-numbered (number ∷ numbers) (draft ∷ drafts) = ap (λ (l : List Added). added_of number draft ∷ l) (entries-numbered numbers drafts)
 
+-- the entries of the tables behind new ones
+pub entries_behind : (levels new : List TableFile)
+    → entries_in (with_new (λ (t : TableFile). t.entry.level) levels new) ≡ with_new (λ (a : Added). a.level) (entries_in levels) (entries_in new)
+entries_behind levels new =
+    let low = filter (λ (t : TableFile). t.entry.level == 0) levels in
+    let high = filter (λ (t : TableFile). not (t.entry.level == 0)) levels in
+    entries-append (low ++ new) high
+    ∙ ap (λ (l : List Added). l ++ entries_in high) (entries-append low new)
+    ∙ (λ i. (entries-filter (λ (a : Added). a.level == 0) levels i ++ entries_in new) ++ entries-filter (λ (a : Added). not (a.level == 0)) levels i)
+
 new_entries : (job : Job) (levels : List TableFile) → job.live ≡ entries_in levels
     → entries_in (with_new (λ (t : TableFile). t.entry.level) levels (made_in job)) ≡ tables_of job
 new_entries job levels live =
-    let zero = λ (a : Added). a.level == 0 in
-    let more = λ (a : Added). not (a.level == 0) in
-    let low = filter (λ (t : TableFile). t.entry.level == 0) levels in
-    let high = filter (λ (t : TableFile). not (t.entry.level == 0)) levels in
-    entries-append (low ++ made_in job) high
-    ∙ ap (λ (l : List Added). l ++ entries_in high) (entries-append low (made_in job))
-    ∙ (λ i. (entries-filter zero levels i ++ entries-numbered job.progress.tables job.drafts i) ++ entries-filter more levels i)
-    ∙ (λ i. (filter zero (sym live i) ++ numbered added_of job.progress.tables job.drafts) ++ filter more (sym live i))
+    entries_behind levels (made_in job) ∙ (λ i. with_new (λ (a : Added). a.level) (sym live i) (entries-numbered job.progress.tables job.drafts i))
 
-opened_new : (footing : Footing) (entries : List Added) (files : List TableFile) → entries_in files ≡ entries → WhereKnown footing (AreOpened (unopened entries) files)
+pub opened_new : (footing : Footing) (entries : List Added) (files : List TableFile) → entries_in files ≡ entries → WhereKnown footing (AreOpened (unopened entries) files)
 opened_new Known entries files is = none_opened entries files is
 opened_new Unknown entries files is = tt
+
+some_met : (failures : List Failure) (failure : Failure) → length (failures ++ failure ∷ []) ≢ 0
+some_met failures failure none =
+    let size = length-append failures (failure ∷ []) in
+    absurd (omega (arith, size, none))
+
+flush_cleared : (flush : Option FlushJob) (seq : ℕ) → flush ≡ None → IsFlushing Cleared flush seq []
+flush_cleared flush seq none = subst (λ (f : Option FlushJob). IsFlushing Cleared f seq []) (sym none) tt
 
 -- ---- a call of the boot that runs
 
@@ -105,7 +116,7 @@ module _ (view : CoreView) (number : ℕ) (running : Resumption) (told : Seen) (
 
   -- it has others before it
   abbrev pub view_moved : CoreView
-  view_moved = record before { device = told; boot = Running (record { steps = running.steps + 1; job = behind }); next_file = next }
+  view_moved = record before { device = told; boot = Running (record { steps = running.steps + 1; job = behind }); next_file = next; manifest = manifest_behind act running.job view.next_file view.manifest }
 
   pub moves : (another : Act) (rest : List Act) → later ≡ another ∷ rest → Calls view.device (change_of running.job view.next_file act) (Ok tt) told
       → MakesCall before drafts (step.Moved number (call_of act)) view_moved
@@ -122,13 +133,19 @@ module _ (view : CoreView) (number : ℕ) (running : Resumption) (told : Seen) (
     record {
       beyond = beyond;
       state_is = done_is beyond ∙ ap (λ (l : List Act). states.with_device told (machine.act_done act running l (state_of before beyond))) is;
-      fits = record { story = fits.story; segments = fits.segments; tables = fits.tables; opened = fits.opened; leads = fits.leads };
+      fits = record { story = fits.story; segments = fits.segments; tables = fits.tables; opened = fits.opened; leads = fits.leads; met = fits.met; handled = fits.handled; flushes = fits.flushes };
     },
   ))
 
   -- it failed
   abbrev pub view_failed : Fault → CoreView
-  view_failed fault = record before { device = told; boot = Over (failure_of act fault); next_file = next }
+  view_failed fault = record before {
+    device = told;
+    boot = Over;
+    handler = noted (failure_of act fault) view.handler;
+    next_file = next;
+    manifest = manifest_tried act running.job view.next_file view.manifest;
+  }
 
   pub fails : (fault : Fault) → Calls view.device (change_of running.job view.next_file act) (Err (error.Fault fault)) told
       → MakesCall before drafts (step.Failed (failure_of act fault)) (view_failed fault)
@@ -142,15 +159,15 @@ module _ (view : CoreView) (number : ℕ) (running : Resumption) (told : Seen) (
       failure_is = refl;
     },
     record {
-      beyond = beyond;
-      state_is = ap (λ (l : List Act). states.with_device told (machine.first_failed l (failure_of act fault) (state_of before beyond))) left;
-      fits = record { story = fits.story; segments = fits.segments; tables = fits.tables; opened = fits.opened; leads = tt };
+      beyond = record beyond { failures = beyond.failures ++ failure_of act fault ∷ [] };
+      state_is = ap (λ (l : List Act). states.with_device told (machine.first_failed running.job l (failure_of act fault) (state_of before beyond))) left;
+      fits = record { story = fits.story; segments = fits.segments; tables = fits.tables; opened = fits.opened; leads = tt; met = some_met beyond.failures (failure_of act fault); handled = handler_noted view.options beyond.failures view.handler (failure_of act fault) fits.handled; flushes = fits.flushes };
     },
   ))
 
   -- it was the last one
   abbrev pub view_cleared : CoreView
-  view_cleared = record (cleared behind before) { device = told; next_file = next; manifest = behind.progress.manifest }
+  view_cleared = record (cleared behind before) { device = told; next_file = next; manifest = manifest_behind act running.job view.next_file view.manifest }
 
   pub clears : later ≡ [] → Calls view.device (change_of running.job view.next_file act) (Ok tt) told
       → MakesCall before drafts (step.Cleared number (running.steps + 1)) view_cleared
@@ -166,12 +183,12 @@ module _ (view : CoreView) (number : ℕ) (running : Resumption) (told : Seen) (
           steps_are = refl;
         },
         record {
-          beyond = record beyond { story = cleared_story beyond.story; immutable = []; active = []; levels = levels; in_tables = last_in view };
+          beyond = record beyond { story = cleared_story beyond.story; immutable = []; active = []; levels = levels; in_tables = last_in view; failures = [] };
           state_is =
               done_is beyond
               ∙ ap (λ (l : List Act). states.with_device told (machine.act_done act running l (state_of before beyond))) is
-              ∙ ap (λ n. record (state_of view_cleared (record beyond { story = cleared_story beyond.story; immutable = []; active = []; levels = levels; in_tables = last_in view })) {
-                numbers = record { next_file = next; manifest = behind.progress.manifest; in_tables = n };
+              ∙ ap (λ n. record (state_of view_cleared (record beyond { story = cleared_story beyond.story; immutable = []; active = []; levels = levels; in_tables = last_in view; failures = [] })) {
+                numbers = record { next_file = next; manifest = manifest_behind act running.job view.next_file view.manifest; in_tables = n };
               }) last;
           fits = record {
             story = cleared_on view.trail beyond.story fits.story;
@@ -179,6 +196,9 @@ module _ (view : CoreView) (number : ℕ) (running : Resumption) (told : Seen) (
             tables = tables_unopened (tables_of behind) ∙ sym entries;
             opened = opened_new beyond.footing (tables_of behind) levels entries;
             leads = tt;
+            met = tt;
+            handled = handler_cleared view.options beyond.failures view.handler fits.handled;
+            flushes = flush_cleared view.flush (last_in view) fits.flushes;
           };
         },
       ))

@@ -10,7 +10,7 @@ use Rattle.keel_group.proofs.Dividing.{all_of}
 use Rattle.keel_machine.specs.declared.steps.WriteStep.{WriteStep}
 use Rattle.keel_machine.specs.declared.steps.WriteStep.TheVariants as step
 use Rattle.keel_machine.specs.Admission.{ops_of}
-use Rattle.keel_resume.specs.Drafts.{count_ops}
+use Rattle.keel_draft.specs.Drafts.{count_ops}
 use Rattle.keel_machine.specs.States as machine
 use Rattle.keel_machine.specs.States.{left_of}
 use Rattle.keel_core.specs.declared.flight.Act.{Act}
@@ -19,9 +19,9 @@ use Rattle.keel_core.specs.declared.log.OwnLog.{OwnLog}
 use Rattle.keel_core.specs.declared.queue.Queue.{Queue}
 use Rattle.keel_core.specs.declared.trail.Trail.{Trail}
 use Rattle.keel_core.specs.Flights.{FlightShown, IsPlanned, act_of, batches_flying, flying, group_of, is_synced, later_than, next_flying, tickets_flying}
-use Rattle.keel_core.specs.Orders.{IsInOrder, IsStaged}
+use Rattle.keel_core.specs.Orders.{IsInOrder}
 use Rattle.keel_core.specs.Queues.{first_act, next_flight}
-use Rattle.keel_core.specs.Steps.{IsMade, IsRefused, NextIs, added, added_step, done, done_step, formed, handed_over, stopped, tried}
+use Rattle.keel_core.specs.Steps.{IsMade, IsRefused, NextIs, added_step, done, done_step, formed, handed_over, stopped, tried}
 use Rattle.keel_core.specs.Views.{BootShown, CanGoOn, Cleared, CoreView, ComesNearer, IsOnPlan, calls_left, is_full}
 use Rattle.keel_core.proofs.Forming.{IsCall, next_some}
 use Rattle.keel_mem.specs.Shown.{MemShown}
@@ -76,10 +76,10 @@ pub record IsEntered (old new : Queue) (switches : Bool) : Type 0 where
   pub each : EachIsAdmissible (next_batches old.waiting.items)
   pub few : next_size old.waiting.items ≤ 64
 
-pub entered_in_order : (mem : MemShown) (trail : Trail) (old new : Queue) (switches : Bool) (segments : ℕ) (boot : BootShown) (log : Option OwnLog) (failed : Option Fault) (last_seq handed_seq next_file : ℕ)
-    → IsInOrder mem trail old segments boot log failed last_seq handed_seq next_file → boot ≡ Cleared → IsEntered old new switches → old.job < 2 ^ 56 → failed ≡ None
-    → IsInOrder mem trail new segments boot log failed last_seq handed_seq next_file
-entered_in_order mem trail old new switches segments boot log failed last_seq handed_seq next_file order cleared q below calm =
+pub entered_in_order : (mem : MemShown) (trail : Trail) (old new : Queue) (switches : Bool) (segments : ℕ) (boot : BootShown) (log : Option OwnLog) (last_seq handed_seq next_file : ℕ)
+    → IsInOrder mem trail old segments boot log last_seq handed_seq next_file → boot ≡ Cleared → IsEntered old new switches → old.job < 2 ^ 56
+    → IsInOrder mem trail new segments boot log last_seq handed_seq next_file
+entered_in_order mem trail old new switches segments boot log last_seq handed_seq next_file order cleared q below =
     let same = are_same old.waiting.items in
     let waiting = q.waiting in
     let group = q.group in
@@ -98,7 +98,7 @@ entered_in_order mem trail old new switches segments boot log failed last_seq ha
       limbo = order.limbo;
       group = rw group q.each;
       few = rw group (omega (arith, q.few, same.tickets, all.rest));
-      staged = rw group (planned_first switches (wants_sync (next_batches old.waiting.items)), calm);
+      staged = rw group (planned_first switches (wants_sync (next_batches old.waiting.items)));
       settled = rw q.outcomes order.settled;
       held = rw (group, waiting) (record {
         below = order.held.below;
@@ -114,15 +114,15 @@ entered_in_order mem trail old new switches segments boot log failed last_seq ha
     }
 
 -- the group that was formed is in flight
-pub formed_flies : (view : CoreView) → view.boot ≡ Cleared → view.failed ≡ None → IsInFlight (formed view) (first_act (is_full view))
-formed_flies view cleared calm = record { cleared = cleared; calm = calm; on_plan = planned_first (is_full view) _; next = refl }
+pub formed_flies : (view : CoreView) → view.boot ≡ Cleared → IsInFlight (formed view) (first_act (is_full view))
+formed_flies view cleared = record { cleared = cleared; on_plan = planned_first (is_full view) _; next = refl }
 
 first_is : (view : CoreView) (group : Option FlightShown) (act : Act) → group ≡ None → NextIs act view group → act ≡ first_act (is_full view)
 first_is view None act none next = next
 first_is view (Some flight) act none next = absurd (cc none)
 
-pub first_flies : (view : CoreView) (act : Act) → view.boot ≡ Cleared → view.failed ≡ None → view.group ≡ None → NextIs act view view.group → IsInFlight (formed view) act
-first_flies view act cleared calm none next = subst (IsInFlight (formed view)) (sym (first_is view view.group act none next)) (formed_flies view cleared calm)
+pub first_flies : (view : CoreView) (act : Act) → view.boot ≡ Cleared → view.group ≡ None → NextIs act view view.group → IsInFlight (formed view) act
+first_flies view act cleared none next = subst (IsInFlight (formed view)) (sym (first_is view view.group act none next)) (formed_flies view cleared)
 
 -- the next act is that of the group in flight
 pub next_flies : (view : CoreView) (group : Option FlightShown) (act : Act) → IsSome group → NextIs act view group → next_flying group ≡ Some act
@@ -130,7 +130,7 @@ next_flies view None act some next = absurd cc
 next_flies view (Some flight) act some next = ap Some (sym next)
 
 pub flies_on : (view : CoreView) (act : Act) → CanGoOn view → IsSome view.group → NextIs act view view.group → IsInFlight view act
-flies_on view act can some next = record { cleared = can.cleared; calm = can.calm; on_plan = can.on_plan; next = next_flies view view.group act some next }
+flies_on view act can some next = record { cleared = can.cleared; on_plan = can.on_plan; next = next_flies view view.group act some next }
 
 -- ---- nearer to the end
 

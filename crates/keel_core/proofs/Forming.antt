@@ -1,5 +1,5 @@
 -- A group that is formed with its first call: the step is that of the group in flight.
-use Rattle.std.proofs.Common.{◌≡◌, ◌≢◌, ℕ, ◌<◌, ◌≤◌, ◌^◌, ◌&&◌, nat_le, max, Bool, true, false, List, [], ◌∷◌, length, Option, Some, None, Ok, Err, refl, sym, ap, subst, ◌∙◌, arith}
+use Rattle.std.proofs.Common.{◌≡◌, ◌≢◌, ℕ, ◌≤◌, ◌&&◌, nat_le, max, Bool, true, false, List, [], ◌∷◌, Option, Some, None, Ok, Err, refl, sym, ap, subst, ◌∙◌, arith}
 use Rattle.keel_base.specs.declared.failure.Counter.TheVariants.{FileNumber}
 use Rattle.keel_base.specs.declared.failure.Fault.{Fault}
 use Rattle.keel_base.specs.declared.op.Batch.{Batch}
@@ -23,7 +23,7 @@ use Rattle.keel_core.specs.declared.flight.Act.{Act}
 use Rattle.keel_core.specs.declared.flight.Act.TheVariants.{CloseLog, MakeLog, SyncDirectory, AddRecords, SyncLog}
 use Rattle.keel_core.specs.Flights.{FlightShown, group_of, made_before, made_log}
 use Rattle.keel_core.specs.Queues.{batches_next, first_act, next_flight}
-use Rattle.keel_core.specs.Steps.{IsMade, IsRefused, change_for, change_of, formed, log_behind, log_for}
+use Rattle.keel_core.specs.Steps.{IsMade, IsRefused, change_for, formed, log_for}
 use Rattle.keel_core.specs.Views.{Beyond, CoreView, Fits, StandsFor, MakesCall, is_full, state_of}
 use Rattle.keel_core.proofs.Segmenting.{active_weighs}
 
@@ -157,7 +157,7 @@ module _ (view : CoreView) (first : Ticketed) (rest : List Ticketed) where
   from_formed made new is step_goes beyond held fits none =
       let s : State = state_of before_group beyond in
       let r : State = state_of in_group beyond in
-      let stood : StandsFor in_group r = record { beyond = beyond; state_is = refl; fits = record { story = fits.story; segments = fits.segments; tables = fits.tables; opened = fits.opened; leads = fits.leads } } in
+      let stood : StandsFor in_group r = record { beyond = beyond; state_is = refl; fits = record { story = fits.story; segments = fits.segments; tables = fits.tables; opened = fits.opened; leads = fits.leads; met = fits.met; handled = fits.handled; flushes = fits.flushes } } in
       let flight = next_flight queue (is_full view) in
       let rests : write_rest r None ≡ None =
       ap (λ (b : Bool). first_some (None ∷ first_some (when b (step.Spent FileNumber) ∷ []) ∷ []))

@@ -109,7 +109,7 @@ held_goes view key found got finds says =
             got_answers (state_of view beyond) key (value_left (Some f.row)) got view.device (says f.row f.shows)
                 (where_known beyond.footing (λ (bears : BearsOut (state_of view beyond)). contents_of view beyond key fits bears ∙ ap (λ (o : Option Row). value_left (else_of o (newest key (level_rows beyond.levels)))) f.is) borne)
                 (quiet_same view.device),
-            record { beyond = beyond; state_is = refl; fits = record { story = fits.story; segments = fits.segments; tables = fits.tables; opened = fits.opened; leads = fits.leads } },
+            record { beyond = beyond; state_is = refl; fits = record { story = fits.story; segments = fits.segments; tables = fits.tables; opened = fits.opened; leads = fits.leads; met = fits.met; handled = fits.handled; flushes = fits.flushes } },
           ));
     }
 
@@ -128,7 +128,7 @@ opened_behind view beyond tables Says fits reads borne =
 pub leads_behind : (boot : BootShown) (old new : List LiveTable) → tables_of new ≡ tables_of old → IsLeading boot old → IsLeading boot new
 leads_behind ToStart old new same leads = tt
 leads_behind (Running resumption) old new same leads = leads ∙ sym same
-leads_behind (Over failure) old new same leads = tt
+leads_behind Over old new same leads = tt
 leads_behind Cleared old new same leads = tt
 
 pub says_behind : (view : CoreView) (beyond : Beyond) (tables : List LiveTable) (Says : List TableFile → Type 0) → Fits view beyond
@@ -166,6 +166,6 @@ stored_goes view key device tables result got none is reads same quiet = record 
             (table_fault result) says)
             borne (says_behind view beyond tables Says fits reads borne))
             quiet,
-        record { beyond = beyond; state_is = refl; fits = record { story = fits.story; segments = fits.segments; tables = same ∙ fits.tables; opened = opened_behind view beyond tables Says fits reads borne; leads = leads_behind view.boot view.levels tables same fits.leads } },
+        record { beyond = beyond; state_is = refl; fits = record { story = fits.story; segments = fits.segments; tables = same ∙ fits.tables; opened = opened_behind view beyond tables Says fits reads borne; leads = leads_behind view.boot view.levels tables same fits.leads; met = fits.met; handled = fits.handled; flushes = fits.flushes } },
       ));
 }

@@ -11,7 +11,7 @@ use Rattle.keel_directory.specs.Sound.{IsAsSaid}
 use Rattle.keel_directory.specs.TableFiles.{TableFile, table_rows}
 use Rattle.keel_machine.specs.Reads.{segment_rows}
 use Rattle.keel_machine.specs.States.{Segment}
-use Rattle.keel_resume.specs.Drafts.{batch_rows, count_ops}
+use Rattle.keel_draft.specs.Drafts.{batch_rows, count_ops}
 use Rattle.keel_core.specs.Gets.{else_of, latest}
 use Rattle.keel_core.specs.Views.{AreSegments, FullSegment}
 

@@ -3,6 +3,7 @@ pub mod Giving
 pub mod Calling
 pub mod Records
 pub mod Stories
+pub mod Failing
 pub mod Segmenting
 pub mod Forming
 pub mod Standing
@@ -26,3 +27,7 @@ pub mod BootRests
 pub mod BootSteps
 pub mod BootStarts
 pub mod BootJobs
+pub mod FlushRests
+pub mod FlushSteps
+pub mod FlushStarts
+pub mod Tellings

@@ -6,7 +6,7 @@ use Rattle.keel_base.specs.declared.op.Batch.{Batch}
 use Rattle.keel_base.specs.declared.op.Op.{Op}
 use Rattle.keel_group.specs.Queue.{ops_count}
 use Rattle.keel_machine.specs.Admission.{ops_of}
-use Rattle.keel_resume.specs.Drafts.{count_ops}
+use Rattle.keel_draft.specs.Drafts.{count_ops}
 use Rattle.keel_machine.specs.WritingAfter.{seq_behind}
 
 -- the elements from an index on are the one there and those behind it

@@ -1,5 +1,5 @@
 -- An opening is a turn of the machine, and the store stands for the state behind.
-use Rattle.std.proofs.Common.{◌≡◌, ℕ, ◌+◌, ◌==◌, Bool, true, false, List, [], ◌∷◌, ◌++◌, length, map, Option, Some, None, Result, Ok, Err, unwrap_or, if◌then◌else◌, cond, refl, sym, ap, subst, ◌∙◌, arith, add-zero, append-nil}
+use Rattle.std.proofs.Common.{◌≡◌, ℕ, ◌+◌, ◌==◌, Bool, true, false, List, [], ◌∷◌, ◌++◌, length, map, Option, Some, None, Result, Ok, Err, unwrap_or, cond, refl, sym, ap, subst, ◌∙◌, arith, add-zero, append-nil}
 use Rattle.std.specs.List.{flat_map}
 use Rattle.std.specs.FinMap.{empty, get-empty}
 use Rattle.keel_base.specs.declared.options.Options.{Options}
@@ -8,7 +8,7 @@ use Rattle.keel_base.specs.Keys.{key_cmp}
 use Rattle.keel_base.specs.Points.{Point, origin}
 use Rattle.keel_base.specs.Rows.{IsMapOf}
 use Rattle.keel_directory.specs.declared.logs.Replayed.{Replayed}
-use Rattle.keel_directory.specs.Reading.{Reading, StoreRead, new, held, refused, IsReading, HasPoint, all_rows}
+use Rattle.keel_directory.specs.Reading.{Reading, new, held, refused, IsReading, HasPoint, all_rows}
 use Rattle.keel_directory.specs.Replays.{replayed_rows, run_on}
 use Rattle.keel_directory.specs.Refusals.{log_gap}
 use Rattle.keel_directory.specs.TableFiles.{TableFile, AllOpen, Opens, bytes_of, open_sized, table_rows}
@@ -21,19 +21,18 @@ use Rattle.keel_edit.specs.declared.edit.Added.{Added}
 use Rattle.keel_levels.specs.declared.live.LiveTable.{LiveTable}
 use Rattle.keel_levels.specs.Live.{AreOpened, entries_of, tables_of}
 use Rattle.keel_levels.proofs.Saying.{points_exist}
-use Rattle.keel_machine.specs.Opening.{Found, Finds, GoesOnWith, IsFoundBy, IsFoundIn, continues, ops_replayed, replayed_segments, story_opened, tables_in}
+use Rattle.keel_machine.specs.Opening.{Found, GoesOnWith, IsFoundBy, continues, ops_replayed, replayed_segments, story_opened, tables_in}
 use Rattle.keel_machine.specs.Reads.{WhereKnown}
-use Rattle.keel_machine.specs.States.{State, Footing, Known, Unknown, Story, entries_in, new_story, point_of}
+use Rattle.keel_machine.specs.States.{State, Footing, Known, Unknown, entries_in, point_of}
 use Rattle.keel_machine.specs.Turns as turns
 use Rattle.keel_machine.specs.Turns.{Answers}
 use Rattle.keel_version.specs.Tables.{AreLevels, IsWithin}
 use Rattle.keel_open.specs.declared.store.StoreFound.{StoreFound}
 use Rattle.keel_open.specs.declared.refusal.OpenRefusal.{OpenRefusal}
-use Rattle.keel_open.specs.Listed.{IsDirectory}
 use Rattle.keel_open.specs.NextFiles.{IsNextFile}
 use Rattle.keel_open.specs.Refusals.{fault_in}
-use Rattle.keel_open.specs.Stores.{IsReadBy, IsNewRead, IsStoreRead, StoreTells, base_of, replay_in}
-use Rattle.keel_resume.specs.Drafts.{count_ops}
+use Rattle.keel_open.specs.Stores.{IsReadBy, IsNewRead, IsStoreRead, StoreTells}
+use Rattle.keel_draft.specs.Drafts.{count_ops}
 use Rattle.keel_table.specs.Opening.{Damage, Opened, opened_with}
 use Rattle.keel_table.specs.Spelling.{footer_of}
 use Rattle.keel_version.specs.Tables.{AreLevels, IsWithin}
@@ -232,6 +231,7 @@ module _ (options : Options) (store : StoreFound) (lives : List LiveTable) (tabl
             active = [];
             levels = found.levels;
             in_tables = store.version.last_seq;
+            failures = [];
           };
           state_is = refl;
           fits = record {
@@ -240,6 +240,9 @@ module _ (options : Options) (store : StoreFound) (lives : List LiveTable) (tabl
             tables = tables ∙ sym entries;
             opened = opened_on s.footing lives found.levels (opened found.levels entries);
             leads = tt;
+            met = refl;
+            handled = record { paranoid = refl; auto = refl; on = refl; standing = refl };
+            flushes = refl;
           };
         };
         last_is = sym (add-zero store.last_seq);

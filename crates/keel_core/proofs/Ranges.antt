@@ -26,7 +26,7 @@ use Rattle.keel_mem.proofs.Newest.{scan_finds_newest}
 use Rattle.keel_merge.specs.Merging.{IsMergeOf, staying, rows_of as merge_rows}
 use Rattle.keel_merge.specs.Order.{AreAscending, EachIsAscending, IsBeforeAll}
 use Rattle.keel_merge.proofs.Behind.{le_before_all}
-use Rattle.keel_resume.specs.Drafts.{batch_rows, count_ops}
+use Rattle.keel_draft.specs.Drafts.{batch_rows, count_ops}
 use Rattle.keel_core.specs.Scans.{AreRanges, IsRange, rows_held}
 use Rattle.keel_core.specs.Views.{AreSegments, FullSegment}
 use Rattle.keel_core.proofs.Latest.{batches_in}

@@ -1,50 +1,24 @@
 -- A step that rests.
-use Rattle.std.proofs.Common.{◌≡◌, ◌≢◌, ℕ, ◌<◌, List, [], ◌∷◌, length, Bool, true, false, Option, Some, None, refl, sym, ap, subst, ◌∙◌, arith, option_map, ◌==◌, ◌&&◌, ◌^◌, nat_le}
+use Rattle.std.proofs.Common.{◌≡◌, ◌≢◌, ℕ, ◌<◌, List, [], ◌∷◌, length, Option, Some, None, refl, sym, ap, subst, ◌∙◌, arith, option_map, ◌==◌, ◌&&◌, ◌^◌, nat_le}
 use Rattle.std.specs.Prelude.{IsSome}
 use Rattle.keel_base.specs.declared.failure.Failure.{Failure}
-use Rattle.keel_base.specs.declared.failure.Fault.{Fault}
-use Rattle.keel_base.specs.declared.failure.Fault.TheVariants.{Plain, NoSpace, SpaceLimit, Fenced, Retryable, DataLoss, Corrupt}
 use Rattle.keel_disk.specs.Seen.{IsQuiet}
 use Rattle.keel_group.specs.Queue.{Ticketed}
-use Rattle.keel_handler.specs.Failures.{stopping_of}
 use Rattle.keel_machine.specs.declared.steps.WriteStep.{WriteStep}
 use Rattle.keel_machine.specs.declared.steps.WriteStep.TheVariants as step
-use Rattle.keel_machine.specs.Admission.{active_weight}
 use Rattle.keel_machine.specs.States.{State}
 use Rattle.keel_machine.specs.Turns.{Answers, after, Writing}
 use Rattle.keel_machine.specs.Tests.{first_some, when, differing}
-use Rattle.keel_machine.specs.Writing.{draws, write_rest}
-use Rattle.keel_machine.specs.WritingAfter.{failure_of}
+use Rattle.keel_machine.specs.Writing.{write_rest}
 use Rattle.keel_base.specs.declared.failure.Counter.TheVariants.{FileNumber, JobNumber}
-use Rattle.keel_mem.specs.Totals.{weight_of}
 use Rattle.keel_core.specs.declared.log.OwnLog.{OwnLog}
 use Rattle.keel_core.specs.Flights.{FlightShown, log_shown}
-use Rattle.keel_core.specs.Orders.{IsLogged, IsStaged}
+use Rattle.keel_core.specs.Orders.{IsLogged}
 use Rattle.keel_core.specs.Steps.{rested}
-use Rattle.keel_core.specs.Views.{Beyond, BootShown, ToStart, Running, Over, Cleared, CoreView, CanGoOn, Fits, IsOnPlan, IsStill, StandsFor, TakesTurn, ComesNearer, IsRest, draws_next, failures_in, failures_of, state_of, rest_of, Finds, calls_left}
+use Rattle.keel_core.specs.Views.{Beyond, BootShown, ToStart, Running, Over, Cleared, CoreView, Fits, IsStill, StandsFor, TakesTurn, ComesNearer, IsRest, state_of, rest_of, Finds, calls_left}
 use Rattle.keel_core.proofs.Calling.{quiet_same}
+use Rattle.keel_core.proofs.Failing.{stopping_same}
 use Rattle.keel_core.proofs.Segmenting.{active_weighs, as_many}
-
--- the failure of a log stops writes, whether doubtful ones are taken as severe or not
-stops : (paranoid : Bool) (fault : Fault) → stopping_of paranoid (failure_of fault ∷ []) ≡ Some (failure_of fault)
-stops true Plain = refl
-stops true NoSpace = refl
-stops true SpaceLimit = refl
-stops true Fenced = refl
-stops true Retryable = refl
-stops true DataLoss = refl
-stops true Corrupt = refl
-stops false Plain = refl
-stops false NoSpace = refl
-stops false SpaceLimit = refl
-stops false Fenced = refl
-stops false Retryable = refl
-stops false DataLoss = refl
-stops false Corrupt = refl
-
-pub stopping_is : (paranoid : Bool) (failed : Option Fault) → stopping_of paranoid (failures_of failed) ≡ option_map failure_of failed
-stopping_is paranoid None = refl
-stopping_is paranoid (Some fault) = stops paranoid fault
 
 -- ---- what a core knows of a store that takes writes
 
@@ -52,14 +26,14 @@ pub is_cleared : (boot : BootShown) (waiting : List Ticketed) (group : Option Fl
 is_cleared Cleared waiting group still some = refl
 is_cleared ToStart waiting group still some = absurd (some still.1 still.0)
 is_cleared (Running resumption) waiting group still some = absurd (some still.1 still.0)
-is_cleared (Over failure) waiting group still some = absurd (some still.1 still.0)
+is_cleared Over waiting group still some = absurd (some still.1 still.0)
 
 pub log_there : (boot : BootShown) (log : Option OwnLog) → IsLogged boot log → boot ≡ Cleared → IsSome (log_shown log)
 log_there Cleared None logged is = absurd cc
 log_there Cleared (Some own) logged is = refl
 log_there ToStart log logged is = absurd (cc is)
 log_there (Running resumption) log logged is = absurd (cc is)
-log_there (Over failure) log logged is = absurd (cc is)
+log_there Over log logged is = absurd (cc is)
 
 -- ---- what it answers
 
@@ -84,7 +58,7 @@ same_rest : (view : CoreView) (boot : BootShown) (waiting : List Ticketed) (grou
 same_rest view Cleared waiting None beyond held still fits =
     let weight = active_weighs beyond.in_tables view.immutable beyond.immutable view.rows beyond.active _ fits.segments in
     let others = as_many beyond.in_tables view.immutable beyond.immutable view.rows beyond.active _ fits.segments in
-    let stopping = stopping_is view.options.paranoid view.failed in
+    let stopping = stopping_same view.options beyond.failures view.handler fits.handled in
     λ i. rest_with (record view { boot = Cleared; waiting = waiting; group = None }) held (stopping i) (weight i) (others i)
 same_rest view Cleared waiting (Some flight) beyond held still fits = refl
 same_rest view ToStart [] None beyond held still fits = refl
@@ -93,9 +67,9 @@ same_rest view ToStart (first ∷ rest) None beyond held still fits = absurd (cc
 same_rest view (Running resumption) [] None beyond held still fits = refl
 same_rest view (Running resumption) waiting (Some flight) beyond held still fits = absurd (cc (still.1))
 same_rest view (Running resumption) (first ∷ rest) None beyond held still fits = absurd (cc (still.0))
-same_rest view (Over failure) [] None beyond held still fits = refl
-same_rest view (Over failure) waiting (Some flight) beyond held still fits = absurd (cc (still.1))
-same_rest view (Over failure) (first ∷ rest) None beyond held still fits = absurd (cc (still.0))
+same_rest view Over [] None beyond held still fits = refl
+same_rest view Over waiting (Some flight) beyond held still fits = absurd (cc (still.1))
+same_rest view Over (first ∷ rest) None beyond held still fits = absurd (cc (still.0))
 
 pub rest_same : (view : CoreView) (s : State) (held : Option ℕ) → IsStill view.boot view.waiting view.group → StandsFor view s → write_rest s held ≡ rest_of view held
 rest_same view s held still stands =
@@ -106,7 +80,7 @@ turned_stands : (view : CoreView) (batches : ℕ) (failure : Failure) (s : State
 turned_stands view batches failure s stands = record {
   beyond = stands.beyond;
   state_is = ap (λ (t : State). after t (Writing None (step.Turned batches failure)) view.device) stands.state_is;
-  fits = record { story = stands.fits.story; segments = stands.fits.segments; tables = stands.fits.tables; opened = stands.fits.opened; leads = stands.fits.leads };
+  fits = record { story = stands.fits.story; segments = stands.fits.segments; tables = stands.fits.tables; opened = stands.fits.opened; leads = stands.fits.leads; met = stands.fits.met; handled = stands.fits.handled; flushes = stands.fits.flushes };
 }
 
 pub same_state : (view : CoreView) (s : State) → StandsFor view s → (record s { device = view.device }) ≡ s

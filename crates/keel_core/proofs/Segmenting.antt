@@ -1,19 +1,20 @@
 -- The rows of segments and their batches.
-use Rattle.std.proofs.Common.{◌≡◌, ℕ, ◌+◌, List, [], ◌∷◌, ◌++◌, length, map, refl, sym, ap, subst, ◌∙◌, arith, append_assoc, append-nil}
+use Rattle.std.proofs.Common.{◌≡◌, ℕ, ◌+◌, List, [], ◌∷◌, ◌++◌, drop, length, Option, Some, None, refl, sym, ap, subst, ◌∙◌, arith, append_assoc}
 use Rattle.keel_base.specs.declared.op.Op.{Op}
 use Rattle.keel_base.specs.declared.row.Row.{Row}
 use Rattle.keel_base.specs.Rows.{op_rows}
 use Rattle.keel_base.specs.Weight as ops
+use Rattle.keel_flush.specs.Plans.{Job as FlushJob}
 use Rattle.keel_machine.specs.Admission.{weight_of_batches}
 use Rattle.keel_machine.specs.States.{Segment}
 use Rattle.keel_mem.specs.Totals.{row_bytes, weight_of}
 use Rattle.keel_mem.proofs.Weighing.{weight_of-op_rows}
 use Rattle.std.proofs.lemmas.List.{length-append}
 use Rattle.std.proofs.lemmas.List.Sums.{sum_by-append}
-use Rattle.keel_resume.specs.Drafts.{batch_rows, count_ops}
+use Rattle.keel_draft.specs.Drafts.{batch_rows, count_ops}
 use Rattle.keel_core.specs.declared.segments.Segment.{Segment as CoreSegment}
 use Rattle.keel_core.specs.Segments.{segment_shown, segments_shown}
-use Rattle.keel_core.specs.Views.{AreSegments, FullSegment}
+use Rattle.keel_core.specs.Views.{AreSegments, Cleared, FullSegment, IsFlushing, IsOfFirst}
 use Rattle.keel_core.proofs.Lists.{count_ops-append}
 
 pub batch_rows-append : (seq : ℕ) (front back : List (List Op)) → batch_rows seq (front ++ back) ≡ batch_rows seq front ++ batch_rows (seq + count_ops front) back
@@ -49,6 +50,22 @@ as_many seq [] [] rows active last h = refl
 as_many seq (full ∷ fulls) (segment ∷ segments) rows active last h = omega (arith, as_many (seq + count_ops segment.batches) fulls segments rows active last h.2)
 as_many seq [] (segment ∷ segments) rows active last h = absurd h
 as_many seq (full ∷ fulls) [] rows active last h = absurd h
+
+-- a flush is of the first one, whatever stands behind
+first_behind : (seq last : ℕ) (segments : List Segment) (full : Segment) → IsOfFirst seq last segments → IsOfFirst seq last (segments ++ full ∷ [])
+first_behind seq last [] full h = absurd h
+first_behind seq last (segment ∷ segments) full h = h
+
+pub one_behind : (flush : Option FlushJob) (seq : ℕ) (segments : List Segment) (full : Segment) → IsFlushing Cleared flush seq segments → IsFlushing Cleared flush seq (segments ++ full ∷ [])
+one_behind None seq segments full h = tt
+one_behind (Some job) seq segments full h = first_behind seq job.draft.last segments full h
+
+-- the first one is gone
+pub first_gone : (seq flushed : ℕ) (fulls : List FullSegment) (segments : List Segment) (rows : List Row) (active : List (List Op)) (last : ℕ)
+    → IsOfFirst seq flushed segments → AreSegments seq fulls segments rows active last → AreSegments flushed (drop 1 fulls) (drop 1 segments) rows active last
+first_gone seq flushed fulls [] rows active last of h = absurd of
+first_gone seq flushed [] (segment ∷ segments) rows active last of h = absurd h
+first_gone seq flushed (full ∷ fulls) (segment ∷ segments) rows active last of h = subst (λ n. AreSegments n fulls segments rows active last) (sym of) h.2
 
 -- batches more in the active one
 pub added_more : (seq : ℕ) (fulls : List FullSegment) (segments : List Segment) (rows : List Row) (active more : List (List Op)) (last behind : ℕ)

@@ -1,5 +1,5 @@
 -- A step of the core is a step of the machine, over plain values.
-use Rattle.std.proofs.Common.{◌≡◌, ℕ, ◌+◌, ◌++◌, Bool, true, false, List, [], ◌∷◌, drop, length, Option, Some, None, Ok, Err, refl, sym, ap, subst, ◌∙◌, arith, if◌then◌else◌}
+use Rattle.std.proofs.Common.{◌≡◌, ℕ, ◌+◌, ◌++◌, Bool, true, false, List, [], ◌∷◌, drop, length, Option, Some, None, Ok, Err, refl, sym, ap, subst, ◌∙◌}
 use Rattle.keel_base.specs.declared.failure.Call.TheVariants as call
 use Rattle.keel_base.specs.declared.failure.Failure.{Failure}
 use Rattle.keel_base.specs.declared.failure.Fault.{Fault}
@@ -21,23 +21,21 @@ use Rattle.keel_machine.specs.Admission.{last_seq, ops_of}
 use Rattle.keel_machine.specs.Outside.{as_answer}
 use Rattle.keel_machine.specs.States as states
 use Rattle.keel_machine.specs.States.{State, Story, Group, Progress, SegmentLog, left_of}
-use Rattle.keel_machine.specs.Turns.{Answers, after, Writing}
 use Rattle.keel_machine.specs.Writing as machine
 use Rattle.keel_machine.specs.Writing.{group_plan, write_rest}
 use Rattle.keel_machine.specs.WritingAfter as machine_after
 use Rattle.keel_machine.specs.WritingAfter.{IsMove, MadeCall, act_done, act_failed, done_each, failure_of, first_done, first_failed, log_longer, with_group}
-use Rattle.keel_resume.specs.Drafts.{batch_rows, count_ops}
 use Rattle.keel_core.specs.declared.flight.Act.{Act}
 use Rattle.keel_core.specs.declared.flight.Act.TheVariants.{CloseLog, MakeLog, SyncDirectory, AddRecords, SyncLog}
-use Rattle.keel_core.specs.Flights.{FlightShown, IsPlanned, act_of, gone_to, group_of, later_than, made_before, made_log, next_flying}
-use Rattle.keel_core.specs.Steps as steps
+use Rattle.keel_core.specs.Flights.{FlightShown, IsPlanned, act_of, gone_to, group_of, later_than, made_before, next_flying}
 use Rattle.keel_core.specs.Steps.{IsMade, IsRefused, IsWanted, bytes_of, change_of, done, done_step, log_behind, number_in, size_in, stopped, tried}
 use Rattle.keel_core.specs.Trails as trails
 use Rattle.keel_core.specs.Trails.{Continues, seq_in}
-use Rattle.keel_core.specs.Views.{Beyond, Cleared, CoreView, Fits, FullSegment, IsOnPlan, MakesCall, StandsFor, last_in, state_of}
+use Rattle.keel_core.specs.Views.{Beyond, Cleared, CoreView, Fits, FullSegment, IsOnPlan, MakesCall, last_in, state_of}
 use Rattle.keel_core.proofs.Calling.{quiet_same}
+use Rattle.keel_core.proofs.Failing.{handler_noted}
 use Rattle.keel_core.proofs.Forming.{by_story}
-use Rattle.keel_core.proofs.Segmenting.{added_more, one_full}
+use Rattle.keel_core.proofs.Segmenting.{added_more, one_behind, one_full}
 use Rattle.keel_core.proofs.Stories.{handed_on, last_same, published_on, seq_published}
 
 -- ---- memory was wanting
@@ -46,7 +44,7 @@ pub wants_goes : (old new : CoreView) → IsWanted old new → MakesCall old ste
 wants_goes old new wanted =
     subst (MakesCall old step.OutOfMemory) (sym wanted.view_is) (by_story old (record old { device = new.device }) step.OutOfMemory (λ beyond held fits none. (
       record { no_rest = none; quiet = wanted.quiet },
-      record { beyond = beyond; state_is = refl; fits = record { story = fits.story; segments = fits.segments; tables = fits.tables; opened = fits.opened; leads = fits.leads } },
+      record { beyond = beyond; state_is = refl; fits = record { story = fits.story; segments = fits.segments; tables = fits.tables; opened = fits.opened; leads = fits.leads; met = fits.met; handled = fits.handled; flushes = fits.flushes } },
     )))
 
 pub same_wanted : (view : CoreView) → IsWanted view view
@@ -80,7 +78,7 @@ module _ (view : CoreView) (told : Seen) (tickets : List ℕ) (batches : List Ba
   flight act sync = record { tickets = tickets; batches = batches; switches = switches; sync = sync; next = act }
 
   abbrev before : Act → Bool → CoreView
-  before act sync = record view { boot = Cleared; group = Some (flight act sync); failed = None }
+  before act sync = record view { boot = Cleared; group = Some (flight act sync) }
 
   abbrev behind : Act → Bool → CoreView
   behind act sync = record (before act sync) { device = told; log = log_behind act (before act sync) }
@@ -151,7 +149,7 @@ module _ (view : CoreView) (told : Seen) (tickets : List ℕ) (batches : List Ba
     record {
       beyond = beyond;
       state_is = done_is CloseLog sync planned beyond held fits none;
-      fits = record { story = fits.story; segments = fits.segments; tables = fits.tables; opened = fits.opened; leads = fits.leads };
+      fits = record { story = fits.story; segments = fits.segments; tables = fits.tables; opened = fits.opened; leads = fits.leads; met = fits.met; handled = fits.handled; flushes = fits.flushes };
     },
   ))
 
@@ -161,7 +159,7 @@ module _ (view : CoreView) (told : Seen) (tickets : List ℕ) (batches : List Ba
     record {
       beyond = beyond;
       state_is = done_is MakeLog sync planned beyond held fits none;
-      fits = record { story = fits.story; segments = fits.segments; tables = fits.tables; opened = fits.opened; leads = fits.leads };
+      fits = record { story = fits.story; segments = fits.segments; tables = fits.tables; opened = fits.opened; leads = fits.leads; met = fits.met; handled = fits.handled; flushes = fits.flushes };
     },
   ))
 
@@ -185,6 +183,9 @@ module _ (view : CoreView) (told : Seen) (tickets : List ℕ) (batches : List Ba
             tables = fits.tables;
             opened = fits.opened;
             leads = fits.leads;
+            met = fits.met;
+            handled = fits.handled;
+            flushes = one_behind view.flush beyond.in_tables beyond.immutable full fits.flushes;
           };
         },
       ))
@@ -207,7 +208,7 @@ module _ (view : CoreView) (told : Seen) (tickets : List ℕ) (batches : List Ba
           state_is =
               done_is AddRecords true planned beyond held fits none
               ∙ (λ i. machine_after.with_log (longer_is true beyond fits i) (with_group (Some (added_group (made_added switches i))) (state_of new later)));
-          fits = record { story = handed_on view.trail beyond.story (ops_of batches) fits.story; segments = fits.segments; tables = fits.tables; opened = fits.opened; leads = fits.leads };
+          fits = record { story = handed_on view.trail beyond.story (ops_of batches) fits.story; segments = fits.segments; tables = fits.tables; opened = fits.opened; leads = fits.leads; met = fits.met; handled = fits.handled; flushes = fits.flushes };
         },
       ))
 
@@ -248,6 +249,9 @@ module _ (view : CoreView) (told : Seen) (tickets : List ℕ) (batches : List Ba
             tables = fits.tables;
             opened = fits.opened;
             leads = fits.leads;
+            met = fits.met;
+            handled = fits.handled;
+            flushes = fits.flushes;
           };
         },
       ))
@@ -281,6 +285,9 @@ module _ (view : CoreView) (told : Seen) (tickets : List ℕ) (batches : List Ba
             tables = fits.tables;
             opened = fits.opened;
             leads = fits.leads;
+            met = fits.met;
+            handled = fits.handled;
+            flushes = fits.flushes;
           };
         },
       ))
@@ -302,23 +309,23 @@ module _ (view : CoreView) (told : Seen) (tickets : List ℕ) (batches : List Ba
   story_over AddRecords story = states.handed (ops_of batches) story
   story_over _ story = story
 
-  abbrev beyond_over : Act → Beyond → Beyond
-  beyond_over act beyond = record beyond { story = story_over act beyond.story }
+  abbrev beyond_over : Act → Fault → Beyond → Beyond
+  beyond_over act fault beyond = record beyond { story = story_over act beyond.story; failures = beyond.failures ++ failure_of fault ∷ [] }
 
   over_is : (act : Act) (sync : Bool) (fault : Fault) (beyond : Beyond)
-      → states.with_device (over act sync fault).device (act_failed (act_of act) (group_of (flight act sync)) (failure_of fault) (state_before act sync beyond)) ≡ state_of (over act sync fault) (beyond_over act beyond)
+      → states.with_device (over act sync fault).device (act_failed (act_of act) (group_of (flight act sync)) (failure_of fault) (state_before act sync beyond)) ≡ state_of (over act sync fault) (beyond_over act fault beyond)
   over_is CloseLog sync fault beyond = refl
   over_is MakeLog sync fault beyond = refl
   over_is (SyncDirectory log) sync fault beyond = refl
   over_is AddRecords sync fault beyond = refl
   over_is SyncLog sync fault beyond = refl
 
-  over_fits : (act : Act) (sync : Bool) (fault : Fault) (beyond : Beyond) → Fits (before act sync) beyond → Fits (over act sync fault) (beyond_over act beyond)
-  over_fits CloseLog sync fault beyond fits = record { story = fits.story; segments = fits.segments; tables = fits.tables; opened = fits.opened; leads = fits.leads }
-  over_fits MakeLog sync fault beyond fits = record { story = fits.story; segments = fits.segments; tables = fits.tables; opened = fits.opened; leads = fits.leads }
-  over_fits (SyncDirectory log) sync fault beyond fits = record { story = fits.story; segments = fits.segments; tables = fits.tables; opened = fits.opened; leads = fits.leads }
-  over_fits AddRecords sync fault beyond fits = record { story = handed_on view.trail beyond.story (ops_of batches) fits.story; segments = fits.segments; tables = fits.tables; opened = fits.opened; leads = fits.leads }
-  over_fits SyncLog sync fault beyond fits = record { story = fits.story; segments = fits.segments; tables = fits.tables; opened = fits.opened; leads = fits.leads }
+  over_fits : (act : Act) (sync : Bool) (fault : Fault) (beyond : Beyond) → Fits (before act sync) beyond → Fits (over act sync fault) (beyond_over act fault beyond)
+  over_fits CloseLog sync fault beyond fits = record { story = fits.story; segments = fits.segments; tables = fits.tables; opened = fits.opened; leads = fits.leads; met = fits.met; handled = handler_noted view.options beyond.failures view.handler (failure_of fault) fits.handled; flushes = fits.flushes }
+  over_fits MakeLog sync fault beyond fits = record { story = fits.story; segments = fits.segments; tables = fits.tables; opened = fits.opened; leads = fits.leads; met = fits.met; handled = handler_noted view.options beyond.failures view.handler (failure_of fault) fits.handled; flushes = fits.flushes }
+  over_fits (SyncDirectory log) sync fault beyond fits = record { story = fits.story; segments = fits.segments; tables = fits.tables; opened = fits.opened; leads = fits.leads; met = fits.met; handled = handler_noted view.options beyond.failures view.handler (failure_of fault) fits.handled; flushes = fits.flushes }
+  over_fits AddRecords sync fault beyond fits = record { story = handed_on view.trail beyond.story (ops_of batches) fits.story; segments = fits.segments; tables = fits.tables; opened = fits.opened; leads = fits.leads; met = fits.met; handled = handler_noted view.options beyond.failures view.handler (failure_of fault) fits.handled; flushes = fits.flushes }
+  over_fits SyncLog sync fault beyond fits = record { story = fits.story; segments = fits.segments; tables = fits.tables; opened = fits.opened; leads = fits.leads; met = fits.met; handled = handler_noted view.options beyond.failures view.handler (failure_of fault) fits.handled; flushes = fits.flushes }
 
   over_told : (act : Act) (sync : Bool) (fault : Fault) → (over act sync fault).device ≡ told
   over_told CloseLog sync fault = refl
@@ -341,7 +348,7 @@ module _ (view : CoreView) (told : Seen) (tickets : List ℕ) (batches : List Ba
           failure_is = refl;
         },
         record {
-          beyond = beyond_over act beyond;
+          beyond = beyond_over act fault beyond;
           state_is =
               ap (λ (l : List states.Act). states.with_device (over act sync fault).device (first_failed (group_of (flight act sync)) l (failure_of fault) (state_before act sync beyond))) (left_is act switches sync planned)
               ∙ over_is act sync fault beyond;
@@ -351,30 +358,28 @@ module _ (view : CoreView) (told : Seen) (tickets : List ℕ) (batches : List Ba
 
 -- ---- the same of what the code knows
 
--- the group in flight with that act before it, in a store that takes writes, where no call failed
+-- the group in flight with that act before it, in a store that takes writes
 pub record IsInFlight (old : CoreView) (act : Act) : Type 0 where
   pub cleared : old.boot ≡ Cleared
-  pub calm : old.failed ≡ None
   pub on_plan : IsOnPlan old.group
   pub next : next_flying old.group ≡ Some act
 
 known_group : (old : CoreView) (group : Option FlightShown) (act : Act) (P : CoreView → Type 0) → IsOnPlan group → next_flying group ≡ Some act
     → ((flight : FlightShown) → IsPlanned act flight.switches flight.sync
-    → P (record old { boot = Cleared; group = Some (record { tickets = flight.tickets; batches = flight.batches; switches = flight.switches; sync = flight.sync; next = act }); failed = None }))
-    → P (record old { boot = Cleared; group = group; failed = None })
+    → P (record old { boot = Cleared; group = Some (record { tickets = flight.tickets; batches = flight.batches; switches = flight.switches; sync = flight.sync; next = act }) }))
+    → P (record old { boot = Cleared; group = group })
 known_group old None act P planned next shown = absurd (cc next)
 known_group old (Some flight) act P planned next shown =
     let is : flight.next ≡ act = cc next in
-    subst (λ (a : Act). P (record old { boot = Cleared; group = Some (record { tickets = flight.tickets; batches = flight.batches; switches = flight.switches; sync = flight.sync; next = a }); failed = None }))
+    subst (λ (a : Act). P (record old { boot = Cleared; group = Some (record { tickets = flight.tickets; batches = flight.batches; switches = flight.switches; sync = flight.sync; next = a }) }))
     (sym is) (shown flight (subst (λ (a : Act). IsPlanned a flight.switches flight.sync) is planned))
 
 known : (old : CoreView) (act : Act) (P : CoreView → Type 0) → IsInFlight old act
     → ((flight : FlightShown) → IsPlanned act flight.switches flight.sync
-    → P (record old { boot = Cleared; group = Some (record { tickets = flight.tickets; batches = flight.batches; switches = flight.switches; sync = flight.sync; next = act }); failed = None }))
+    → P (record old { boot = Cleared; group = Some (record { tickets = flight.tickets; batches = flight.batches; switches = flight.switches; sync = flight.sync; next = act }) }))
     → P old
 known old act P flies shown =
-    subst (λ (f : Option Fault). P (record old { failed = f })) (sym flies.calm)
-    (subst (λ b. P (record old { boot = b; failed = None })) (sym flies.cleared) (known_group old old.group act P flies.on_plan flies.next shown))
+    subst (λ b. P (record old { boot = b })) (sym flies.cleared) (known_group old old.group act P flies.on_plan flies.next shown)
 
 -- behind a call that was answered Ok
 pub done_goes : (old now : CoreView) (act : Act) → IsInFlight old act → IsMade act old now → MakesCall old (done_step act now) (done act now)

@@ -1,5 +1,5 @@
 -- How a story goes on that has the batches of a trail behind others.
-use Rattle.std.proofs.Common.{◌≡◌, ℕ, suc, ◌+◌, Bool, true, false, List, [], ◌∷◌, ◌++◌, length, take, drop, refl, sym, ap, ◌∙◌, arith, append_assoc, append-nil}
+use Rattle.std.proofs.Common.{◌≡◌, ℕ, suc, ◌+◌, Bool, true, false, List, [], ◌∷◌, ◌++◌, length, take, drop, refl, sym, ap, ◌∙◌, arith, append_assoc}
 use Rattle.std.proofs.lemmas.List.{length-append, take-append-drop}
 use Rattle.keel_base.specs.Points.{Point, after_batch, fold_batches}
 use Rattle.keel_base.specs.declared.op.Batch.{Batch}
@@ -8,7 +8,7 @@ use Rattle.keel_machine.specs.Admission.{ops_of}
 use Rattle.keel_machine.specs.Resuming.{cleared_story}
 use Rattle.keel_machine.specs.States as machine
 use Rattle.keel_machine.specs.States.{Story, point_of}
-use Rattle.keel_resume.specs.Drafts.{count_ops}
+use Rattle.keel_draft.specs.Drafts.{count_ops}
 use Rattle.keel_core.specs.Trails.{Continues, TrailShown, cleared, handed, published, seq_in}
 use Rattle.keel_core.proofs.Lists.{count_ops-append}
 

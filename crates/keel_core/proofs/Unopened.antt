@@ -1,5 +1,5 @@
 -- Tables of which none is open.
-use Rattle.std.proofs.Common.{◌≡◌, List, [], ◌∷◌, Option, Some, None, refl, sym, ap, ◌∙◌}
+use Rattle.std.proofs.Common.{◌≡◌, List, [], ◌∷◌, Option, Some, None, refl, sym, ap}
 use Rattle.keel_directory.specs.TableFiles.{TableFile}
 use Rattle.keel_edit.specs.declared.edit.Added.{Added}
 use Rattle.keel_levels.specs.declared.live.LiveTable.{LiveTable}

@@ -10,7 +10,7 @@ use Rattle.keel_core.specs.Views.{BootShown, ToStart, Running, Over, Cleared}
 abbrev pub boot_shown : Boot → BootShown
 boot_shown boot.ToStart = ToStart
 boot_shown (boot.Running resumption) = Running resumption
-boot_shown (boot.Over failure) = Over failure
+boot_shown boot.Over = Over
 boot_shown boot.Cleared = Cleared
 
 abbrev pub levels_in : Tables → List LiveTable

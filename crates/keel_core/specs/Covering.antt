@@ -1,8 +1,7 @@
 -- The tables that a boot has before it.
 use Rattle.std.specs.Prelude.{◌≡◌, ◌≢◌, ◌+◌, ◌<◌, ◌^◌, List, [], ◌∷◌, length}
 use Rattle.keel_levels.specs.Live.{tables_of}
-use Rattle.keel_resume.specs.Drafts.{Draft}
-use Rattle.keel_resume.specs.Jobs.{IsTableFor}
+use Rattle.keel_draft.specs.Drafts.{Draft, IsTableFor}
 use Rattle.keel_resume.specs.Plans.{job_of}
 use Rattle.keel_machine.specs.States.{Resumption}
 use Rattle.keel_core.specs.Views.{CoreView, FullSegment, last_in}

@@ -2,6 +2,7 @@ pub mod Trails
 pub mod Flights
 pub mod Queues
 pub mod Placing
+pub mod Failing
 pub mod Views
 pub mod Tables
 pub mod Boots
@@ -13,6 +14,7 @@ pub mod Opened
 pub mod Plans
 pub mod Resuming
 pub mod Covering
+pub mod Flushes
 pub mod Gets
 pub mod Scans
 pub mod Reads

@@ -1,15 +1,16 @@
 -- The parts of a store that is opened.
-use Rattle.std.specs.Prelude.{◌≡◌, ◌≤◌, ◌^◌, List, [], length, None, option_map}
+use Rattle.std.specs.Prelude.{◌≡◌, ◌≤◌, ◌^◌, List, [], length, None}
 use Rattle.keel_base.specs.declared.options.Options.{Options}
 use Rattle.keel_directory.specs.TableFiles.{TableFile}
 use Rattle.keel_disk.specs.Seen.{Seen}
+use Rattle.keel_handler.specs.Recovery.{fresh as fresh_handler}
 use Rattle.keel_levels.specs.Live.{AreOpened, entries_of, tables_of}
-use Rattle.keel_manifest.specs.declared.manifest.InUse.{InUse}
+use Rattle.keel_manifest.specs.State.{named_at_opening}
 use Rattle.keel_open.specs.declared.store.StoreFound.{StoreFound}
 use Rattle.keel_version.specs.Tables.{AreLevels, IsWithin}
 use Rattle.keel_core.specs.Boots.{levels_in}
 use Rattle.keel_core.specs.declared.opening.Parts.{Parts}
-use Rattle.keel_core.specs.Openings.{fresh, replayed_full}
+use Rattle.keel_core.specs.Openings.{replayed_full}
 use Rattle.keel_core.specs.Segments.{segments_shown}
 use Rattle.keel_core.specs.Trails.{new_trail}
 use Rattle.keel_core.specs.Views.{CoreView, ToStart}
@@ -20,7 +21,7 @@ pub record ArePartsOf (found : StoreFound) (parts : Parts) : Type 0 where
   pub opened : (files : List TableFile) → entries_of files ≡ found.version.tables → AreOpened (levels_in parts.tables) files
   pub segments : segments_shown parts.segments.items ≡ replayed_full found.version.last_seq found.batches.items found.logs.items
   pub few : length parts.segments.items ≤ 1
-  pub manifest : option_map (λ (used : InUse). used.number) parts.manifest.in_use ≡ found.manifest
+  pub manifest : parts.manifest ≡ named_at_opening found.manifest found.edits
   pub last_seq : parts.last_seq ≡ found.last_seq
   pub within : parts.last_seq ≤ 2 ^ 56
   pub next_file : parts.next_file ≡ found.next_file
@@ -44,7 +45,9 @@ pub record IsCoreOf (device : Seen) (options : Options) (parts : Parts) (core : 
     outcomes = [];
     last_ticket = 0;
     job = 0;
-    failed = None;
+    flush = None;
+    flush_job = 0;
+    handler = fresh_handler options.paranoid options.auto options.attempts options.interval;
     next_file = parts.next_file;
-    manifest = option_map (λ (used : InUse). used.number) parts.manifest.in_use;
+    manifest = parts.manifest;
   }

@@ -6,13 +6,15 @@ use Rattle.keel_directory.specs.Reading.{Reading, IsReading, HasPoint}
 use Rattle.keel_disk.specs.Plain.{image_read}
 use Rattle.keel_disk.specs.Told.{Told}
 use Rattle.keel_disk.specs.Seen.{Seen}
+use Rattle.keel_handler.specs.Recovery.{fresh as fresh_handler}
 use Rattle.keel_levels.specs.declared.live.LiveTable.{LiveTable}
 use Rattle.keel_machine.specs.Opening.{Found, continues, ops_replayed}
 use Rattle.keel_machine.specs.States.{State, point_of}
 use Rattle.keel_machine.specs.Turns.{Opening, Answers, after}
+use Rattle.keel_manifest.specs.State.{named_at_opening}
 use Rattle.keel_open.specs.declared.store.StoreFound.{StoreFound}
 use Rattle.keel_open.specs.Listed.{IsDirectory}
-use Rattle.keel_resume.specs.Drafts.{batch_rows}
+use Rattle.keel_draft.specs.Drafts.{batch_rows}
 use Rattle.keel_core.specs.Trails.{new_trail}
 use Rattle.keel_core.specs.Views.{CoreView, FullSegment, StandsFor, ToStart, last_in}
 
@@ -59,9 +61,11 @@ fresh device options found levels = record {
   outcomes = [];
   last_ticket = 0;
   job = 0;
-  failed = None;
+  flush = None;
+  flush_job = 0;
+  handler = fresh_handler options.paranoid options.auto options.attempts options.interval;
   next_file = found.next_file;
-  manifest = found.manifest;
+  manifest = named_at_opening found.manifest found.edits;
 }
 
 -- A store was opened: what it found has its cause, and it stands for the state behind.

@@ -1,31 +1,25 @@
 -- What is true of every core, whatever its device tells.
-use Rattle.std.specs.Prelude.{◌≡◌, ℕ, ◌+◌, ◌<◌, ◌≤◌, ◌^◌, List, length, All, Option, Some, None, IsSome, vec_len, vec_capacity}
+use Rattle.std.specs.Prelude.{◌≡◌, ℕ, ◌+◌, ◌<◌, ◌≤◌, ◌^◌, List, length, All, Option, None, IsSome, vec_len, vec_capacity}
 use Rattle.std.specs.List.{AllByRecursion}
-use Rattle.keel_base.specs.declared.failure.Fault.{Fault}
 use Rattle.keel_group.specs.Forming.{EachIsAdmissible}
 use Rattle.keel_group.specs.Queue.{Ticketed, batches_of}
 use Rattle.keel_machine.specs.declared.answers.Outcome.{Outcome}
 use Rattle.keel_machine.specs.declared.answers.Outcome.TheVariants.{Waiting}
 use Rattle.keel_machine.specs.Admission.{ops_of}
 use Rattle.keel_mem.specs.Shown.{MemShown}
-use Rattle.keel_resume.specs.Drafts.{count_ops}
+use Rattle.keel_draft.specs.Drafts.{count_ops}
 use Rattle.keel_core.specs.declared.log.OwnLog.{OwnLog}
 use Rattle.keel_core.specs.declared.queue.Queue.{Queue}
 use Rattle.keel_core.specs.declared.trail.Trail.{Trail}
-use Rattle.keel_core.specs.Flights.{FlightShown, IsPlanned, batches_flying, flying, tickets_flying}
+use Rattle.keel_core.specs.Flights.{FlightShown, batches_flying, flying, tickets_flying}
 use Rattle.keel_core.specs.Placing.{bytes_needed}
 use Rattle.keel_core.specs.Trails.{TrailShown, limbo_in, seq_in, shown}
-use Rattle.keel_core.specs.Views.{BootShown, Cleared, IsStill}
+use Rattle.keel_core.specs.Views.{BootShown, Cleared, IsOnPlan, IsStill}
 
 -- a store that takes writes has a log; before that it has none
 abbrev pub IsLogged : BootShown → Option OwnLog → Type 0
 IsLogged Cleared log = IsSome log
 IsLogged _ log = log ≡ None
-
--- behind a failure there is no group in flight
-abbrev pub IsStaged : Option FlightShown → Option Fault → Type 0
-IsStaged None failed = Unit {0}
-IsStaged (Some flight) failed = IsPlanned flight.next flight.switches flight.sync × (failed ≡ None)
 
 abbrev pub IsSettled : Outcome → Type 0
 IsSettled Waiting = ⊥
@@ -38,7 +32,7 @@ pub record IsHeld (mem : MemShown) (trail : TrailShown) (group : Option FlightSh
   pub bytes : bytes_needed trail.limbo + bytes_needed (ops_of (batches_flying group)) + bytes_needed (ops_of (batches_of waiting)) ≤ mem.bytes
   pub entries : count_ops trail.limbo + count_ops (ops_of (batches_flying group)) + count_ops (ops_of (batches_of waiting)) ≤ mem.entries
 
-pub record IsInOrder (mem : MemShown) (trail : Trail) (queue : Queue) (segments : ℕ) (boot : BootShown) (log : Option OwnLog) (failed : Option Fault) (last_seq handed_seq next_file : ℕ) : Type 0 where
+pub record IsInOrder (mem : MemShown) (trail : Trail) (queue : Queue) (segments : ℕ) (boot : BootShown) (log : Option OwnLog) (last_seq handed_seq next_file : ℕ) : Type 0 where
   pub still : IsStill boot queue.waiting.items (flying queue.group)
   pub logged : IsLogged boot log
   -- sequence numbers
@@ -49,7 +43,7 @@ pub record IsInOrder (mem : MemShown) (trail : Trail) (queue : Queue) (segments 
   pub limbo : EachIsAdmissible (limbo_in trail)
   pub group : EachIsAdmissible (batches_flying (flying queue.group))
   pub few : length (tickets_flying (flying queue.group)) ≤ 64
-  pub staged : IsStaged (flying queue.group) failed
+  pub staged : IsOnPlan (flying queue.group)
   pub settled : AllByRecursion (λ (entry : ℕ × Outcome). IsSettled entry.1) queue.outcomes.items
   -- memory taken before it is needed
   pub held : IsHeld mem (shown trail) (flying queue.group) queue.waiting.items

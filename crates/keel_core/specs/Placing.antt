@@ -7,7 +7,7 @@ use Rattle.keel_base.specs.declared.op.Op.{Op}
 use Rattle.keel_machine.specs.Admission.{ops_of}
 use Rattle.keel_mem.specs.Needs.{bytes_of}
 use Rattle.keel_mem.specs.Shown.{MemShown}
-use Rattle.keel_resume.specs.Drafts.{batch_rows, count_ops}
+use Rattle.keel_draft.specs.Drafts.{batch_rows, count_ops}
 
 -- the bytes of all keys and values
 abbrev pub bytes_needed : List (List Op) → ℕ

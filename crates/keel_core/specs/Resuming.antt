@@ -1,9 +1,9 @@
 -- How a core goes on in a resume step.
-use Rattle.std.specs.Prelude.{◌≡◌, ℕ, ◌+◌, ◌<◌, ◌^◌, ◌&&◌, nat_le, Bool, true, List, [], ◌∷◌, ◌++◌, length, Option, Some, None, Result, Ok, Err, option_map}
+use Rattle.std.specs.Prelude.{◌≡◌, ℕ, ◌&&◌, nat_le, List, [], ◌∷◌, Option, Some, None, Result, Ok, Err, option_map}
 use Rattle.keel_base.specs.declared.limits.TheConstants.{LAST_NUMBER}
 use Rattle.keel_base.specs.declared.failure.Counter.TheVariants.{FileNumber, JobNumber}
-use Rattle.keel_base.specs.declared.failure.Failure.{Failure}
 use Rattle.keel_disk.specs.Seen.{IsQuiet}
+use Rattle.keel_handler.specs.Recovery.{renewed}
 use Rattle.keel_machine.specs.declared.steps.ResumeStep.{ResumeStep}
 use Rattle.keel_machine.specs.declared.steps.ResumeStep.TheVariants as step
 use Rattle.keel_machine.specs.Resuming as machine
@@ -11,12 +11,12 @@ use Rattle.keel_machine.specs.States.{State, Resumption, new_log}
 use Rattle.keel_machine.specs.Tests.{first_some, when, differing}
 use Rattle.keel_machine.specs.Turns.{Answers, after}
 use Rattle.keel_machine.specs.Turns as turns
-use Rattle.keel_resume.specs.Drafts.{Draft}
+use Rattle.keel_draft.specs.Drafts.{Draft}
 use Rattle.keel_resume.specs.Jobs.{draws_next, tables_of}
-use Rattle.keel_resume.specs.Plans.{Act, Job, left_of}
+use Rattle.keel_resume.specs.Plans.{Job, left_of}
 use Rattle.keel_core.specs.Tables.{unopened}
 use Rattle.keel_core.specs.Trails as trails
-use Rattle.keel_core.specs.Views.{BootShown, ToStart, Running, Over, Cleared, CoreView, StandsFor, TakesTurn, with_device}
+use Rattle.keel_core.specs.Views.{BootShown, ToStart, Running, Cleared, CoreView, StandsFor, TakesTurn, with_device}
 
 -- For the tables that the boot has before it the step is a turn.
 pub record ResumesTurn (old : CoreView) (held : Option ℕ) (made : ResumeStep) (new : CoreView) : Type 0 where
@@ -87,7 +87,7 @@ cleared job view = record view {
   rows = [];
   log = option_map new_log job.progress.log;
   levels = unopened (tables_of job);
-  failed = None;
+  handler = renewed None view.handler;
 }
 
 -- from a core in which that boot runs the step is a turn

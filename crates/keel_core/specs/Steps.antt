@@ -19,12 +19,13 @@ use Rattle.keel_machine.specs.declared.steps.WriteStep.TheVariants as step
 use Rattle.keel_machine.specs.Admission.{ops_of}
 use Rattle.keel_machine.specs.States.{SegmentLog, new_log}
 use Rattle.keel_machine.specs.WritingAfter.{done_each, failure_of, log_failed, log_longer, numbers_of}
-use Rattle.keel_resume.specs.Drafts.{batch_rows, count_ops}
+use Rattle.keel_draft.specs.Drafts.{batch_rows, count_ops}
 use Rattle.keel_core.specs.declared.flight.Act.{Act}
 use Rattle.keel_core.specs.declared.segments.Segment.{Segment}
+use Rattle.keel_core.specs.Failing.{noted}
 use Rattle.keel_core.specs.Placing.{bytes_needed}
 use Rattle.keel_core.specs.declared.flight.Act.TheVariants.{CloseLog, MakeLog, SyncDirectory, AddRecords, SyncLog}
-use Rattle.keel_core.specs.Flights.{FlightShown, batches_flying, gone_to, is_synced, next_flying, tickets_flying, without_batches}
+use Rattle.keel_core.specs.Flights.{FlightShown, batches_flying, gone_to, is_synced, tickets_flying, without_batches}
 use Rattle.keel_core.specs.Queues.{batches_next, first_act, given, next_flight}
 use Rattle.keel_core.specs.Trails as trails
 use Rattle.keel_core.specs.Trails.{seq_in}
@@ -180,7 +181,7 @@ abbrev pub stopped : Fault → CoreView → CoreView
 stopped fault view = record view {
   group = None;
   outcomes = view.outcomes ++ given (outcome.Failed (failure_of fault)) (tickets_flying view.group);
-  failed = Some fault;
+  handler = noted (failure_of fault) view.handler;
 }
 
 -- a queue that is turned away is empty, and its tickets have their outcomes

@@ -5,7 +5,7 @@ use Rattle.keel_base.specs.declared.op.Batch.{Batch}
 use Rattle.keel_base.specs.declared.op.Op.{Op}
 use Rattle.keel_machine.specs.Admission.{ops_of}
 use Rattle.keel_machine.specs.States.{Story}
-use Rattle.keel_resume.specs.Drafts.{count_ops}
+use Rattle.keel_draft.specs.Drafts.{count_ops}
 use Rattle.keel_core.specs.declared.trail.Trail.{Trail}
 
 -- the number of the last op at the opening, the batches that were published since, those that were handed to a log and

@@ -1,15 +1,17 @@
 -- What a core shows, and the states of the machine that it stands for.
-use Rattle.std.specs.Prelude.{◌≡◌, ◌≢◌, ℕ, ◌+◌, ◌*◌, ◌<◌, ◌^◌, ◌==◌, ◌&&◌, nat_le, Bool, true, false, List, [], ◌∷◌, length, Option, None, Some, is_some, IsSome, option_map, option_to_list}
+use Rattle.std.specs.Prelude.{◌≡◌, ◌≢◌, ℕ, ◌+◌, ◌*◌, ◌<◌, ◌^◌, ◌==◌, ◌&&◌, nat_le, Bool, true, false, List, [], ◌∷◌, length, Option, None, Some, IsSome, option_map}
 use Rattle.keel_base.specs.declared.limits.TheConstants.{LAST_NUMBER}
 use Rattle.keel_base.specs.declared.failure.Counter.TheVariants.{FileNumber, JobNumber}
-use Rattle.keel_base.specs.declared.failure.Fault.{Fault}
 use Rattle.keel_base.specs.declared.failure.Failure.{Failure}
 use Rattle.keel_base.specs.declared.op.Op.{Op}
 use Rattle.keel_base.specs.declared.options.Options.{Options}
 use Rattle.keel_base.specs.declared.row.Row.{Row}
 use Rattle.keel_directory.specs.TableFiles.{TableFile}
 use Rattle.keel_disk.specs.Seen.{Seen}
+use Rattle.keel_flush.specs.Plans.{Job as FlushJob}
 use Rattle.keel_group.specs.Queue.{Ticketed}
+use Rattle.keel_handler.specs.Failures.{standing_of, where_severe}
+use Rattle.keel_handler.specs.Recovery.{HandlerState}
 use Rattle.keel_machine.specs.declared.answers.Outcome.{Outcome}
 use Rattle.keel_machine.specs.declared.steps.WriteStep.{WriteStep}
 use Rattle.keel_machine.specs.declared.steps.WriteStep.TheVariants as step
@@ -22,9 +24,9 @@ use Rattle.keel_machine.specs.Tests.{first_some, when, differing}
 use Rattle.keel_machine.specs.Turns.{Event, Answers, after}
 use Rattle.keel_machine.specs.Turns as turns
 use Rattle.keel_machine.specs.Writing.{draws, write_rest}
-use Rattle.keel_machine.specs.WritingAfter.{failure_of}
+use Rattle.keel_manifest.specs.State.{ManifestState}
 use Rattle.keel_mem.specs.Totals.{weight_of}
-use Rattle.keel_resume.specs.Drafts.{batch_rows, count_ops}
+use Rattle.keel_draft.specs.Drafts.{batch_rows, count_ops}
 use Rattle.keel_core.specs.Flights.{FlightShown, IsPlanned, group_of, running_of}
 use Rattle.keel_core.specs.Trails.{TrailShown, Continues, seq_in}
 
@@ -34,7 +36,7 @@ use Rattle.keel_core.specs.Trails.{TrailShown, Continues, seq_in}
 pub data BootShown : Type 0 where
   ToStart : BootShown
   Running : Resumption → BootShown
-  Over : Failure → BootShown
+  Over : BootShown
   Cleared : BootShown
 
 abbrev pub takes_writes : BootShown → Bool
@@ -72,11 +74,14 @@ pub record CoreView : Type 0 where
   pub outcomes : List (ℕ × Outcome)
   pub last_ticket : ℕ
   pub job : ℕ
-  -- how a call of a group failed, from when on nothing is written
-  pub failed : Option Fault
+  -- the flush that runs, and the number of the one that runs or ran last
+  pub flush : Option FlushJob
+  pub flush_job : ℕ
+  -- the failure that stands
+  pub handler : HandlerState
   pub next_file : ℕ
-  -- the manifest in use
-  pub manifest : Option ℕ
+  -- the manifest in use, and what a crash may leave of manifests
+  pub manifest : ManifestState
 
 -- the core over a device that shows this
 abbrev pub with_device : Seen → CoreView → CoreView
@@ -94,6 +99,10 @@ is_full view = nat_le view.options.write_buffer (weight_of view.rows)
 abbrev pub is_store_full : CoreView → Bool
 is_store_full view = is_full view && nat_le view.options.max_immutables (length view.immutable)
 
+-- the failure that stands where it stops writes
+abbrev pub stopping_in : CoreView → Option Failure
+stopping_in view = where_severe view.handler.paranoid view.handler.standing
+
 -- ---- the states that it stands for
 
 -- what a state has beside what the core shows
@@ -106,6 +115,8 @@ pub record Beyond : Type 0 where
   pub active : List (List Op)
   pub levels : List TableFile
   pub in_tables : ℕ
+  -- the failures since the last clear, oldest first
+  pub failures : List Failure
 
 -- The rows of the segments are those of their batches, which are numbered on behind that number up to the last one.
 abbrev pub AreSegments : ℕ → List FullSegment → List Segment → List Row → List (List Op) → ℕ → Type 0
@@ -120,6 +131,30 @@ abbrev pub IsLeading : BootShown → List LiveTable → Type 0
 IsLeading (Running resumption) levels = resumption.job.live ≡ tables_of levels
 IsLeading _ levels = Unit {0}
 
+-- a boot meets no failure but the one that ends it
+abbrev pub IsMet : BootShown → List Failure → Type 0
+IsMet Cleared failures = Unit {0}
+IsMet Over failures = length failures ≢ 0
+IsMet _ failures = failures ≡ []
+
+-- the handler has the settings of the options, has given up nothing, and has the failure that stands of these
+pub record IsHandlerOf (options : Options) (failures : List Failure) (handler : HandlerState) : Type 0 where
+  pub paranoid : handler.paranoid ≡ options.paranoid
+  pub auto : handler.auto ≡ options.auto
+  pub on : handler.given_up ≡ false
+  pub standing : handler.standing ≡ standing_of options.paranoid failures
+
+-- the batches of the first of these segments, which are numbered behind a number, end with that one
+abbrev pub IsOfFirst : ℕ → ℕ → List Segment → Type 0
+IsOfFirst seq last [] = ⊥
+IsOfFirst seq last (segment ∷ segments) = last ≡ seq + count_ops segment.batches
+
+-- a flush runs once the store takes writes, and is of the oldest full segment
+abbrev pub IsFlushing : BootShown → Option FlushJob → ℕ → List Segment → Type 0
+IsFlushing Cleared None seq segments = Unit {0}
+IsFlushing Cleared (Some job) seq segments = IsOfFirst seq job.draft.last segments
+IsFlushing _ flush seq segments = flush ≡ None
+
 -- what is beyond the core goes with what it shows
 pub record Fits (view : CoreView) (beyond : Beyond) : Type 0 where
   pub story : Continues view.trail beyond.story
@@ -128,19 +163,13 @@ pub record Fits (view : CoreView) (beyond : Beyond) : Type 0 where
   -- of a known device what is open is what its files have
   pub opened : WhereKnown beyond.footing (AreOpened view.levels beyond.levels)
   pub leads : IsLeading view.boot view.levels
+  pub met : IsMet view.boot beyond.failures
+  pub handled : IsHandlerOf view.options beyond.failures view.handler
+  pub flushes : IsFlushing view.boot view.flush beyond.in_tables beyond.immutable
 
 abbrev pub phase_of : BootShown → Phase
 phase_of Cleared = machine.Open
 phase_of _ = machine.Booting
-
--- the failure that stands, where a call failed
-abbrev pub failures_of : Option Fault → List Failure
-failures_of failed = option_to_list (option_map failure_of failed)
-
-abbrev pub failures_in : BootShown → Option Fault → List Failure
-failures_in (Over failure) failed = failure ∷ []
-failures_in Cleared failed = failures_of failed
-failures_in _ failed = []
 
 abbrev pub resumption_of : BootShown → Option Resumption
 resumption_of (Running resumption) = Some resumption
@@ -157,9 +186,10 @@ state_of view beyond = record {
   segments = record { immutable = beyond.immutable; active = record { batches = beyond.active; log = view.log } };
   levels = beyond.levels;
   writing = record { waiting = view.waiting; outcomes = view.outcomes; last_ticket = view.last_ticket };
-  failing = record { failures = failures_in view.boot view.failed };
+  failing = record { failures = beyond.failures };
   jobs = record {
     write = record { number = view.job; running = running_of view.group };
+    flush = record { number = view.flush_job; running = view.flush };
     resume = record { number = view.boot_job; running = resumption_of view.boot };
   };
   numbers = record { next_file = view.next_file; manifest = view.manifest; in_tables = beyond.in_tables };
@@ -193,7 +223,7 @@ is_file_spent view = nat_le LAST_NUMBER view.next_file
 abbrev pub rests_of : CoreView → Option FlightShown → List (Option WriteStep)
 rests_of view None =
     when (length view.waiting == 0) step.Idle
-    ∷ option_map (λ failure. step.Turned (length view.waiting) failure) (option_map failure_of view.failed)
+    ∷ option_map (λ failure. step.Turned (length view.waiting) failure) (stopping_in view)
     ∷ when (is_store_full view) (step.Full (weight_of view.rows) (length view.immutable))
     ∷ when (nat_le LAST_NUMBER view.job) (step.Spent JobNumber)
     ∷ when (is_full view && is_file_spent view) (step.Spent FileNumber)
@@ -220,14 +250,12 @@ abbrev pub IsOnPlan : Option FlightShown → Type 0
 IsOnPlan None = Unit {0}
 IsOnPlan (Some flight) = IsPlanned flight.next flight.switches flight.sync
 
--- A group is in flight or can be formed, no call failed, there is a log, and the numbers that its calls draw are below
--- their ends.
+-- A group is in flight or can be formed, there is a log, and the numbers that its calls draw are below their ends.
 pub record CanGoOn (view : CoreView) : Type 0 where
   pub cleared : view.boot ≡ Cleared
   pub log : IsSome view.log
   pub on_plan : IsOnPlan view.group
   pub some : view.group ≡ None → view.waiting ≢ []
-  pub calm : view.failed ≡ None
   pub job : view.group ≡ None → view.job < 2 ^ 56
   pub file : draws_next view.group ≡ true → view.next_file < 2 ^ 56
 

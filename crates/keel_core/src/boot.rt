@@ -1,5 +1,4 @@
 // How far the boot has come.
-use keel_base::Failure;
 use keel_resume::ResumeJob;
 use std::marker::Model;
 
@@ -10,7 +9,7 @@ pub(crate) enum Boot {
     ToStart,
     Running(Resumption),
     /// A call of it failed, and the store takes no writes.
-    Over(Failure),
+    Over,
     /// It is over, and the store takes writes.
     Cleared,
 }

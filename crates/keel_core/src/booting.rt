@@ -7,6 +7,7 @@ ghost use Rattle.keel_resume.specs.Jobs.{IsBehindManifest, draws_next};
 ghost use Rattle.keel_resume.specs.Plans.{left_of};
 
 use crate::boot::{Boot, Resumption};
+use crate::handling::note;
 use crate::log::log_of;
 use crate::store::Core;
 use crate::tables::Tables;
@@ -93,7 +94,7 @@ impl<D: Disk> Core<D> {
                 }
                 None
             }
-            Boot::Over(_) | Boot::Cleared => Some(ResumeStep::Idle),
+            Boot::Over | Boot::Cleared => Some(ResumeStep::Idle),
         }
     }
 
@@ -152,7 +153,8 @@ impl<D: Disk> Core<D> {
             }
             JobMove::Failed(failure) => {
                 self.boot_job = number;
-                self.boot = Boot::Over(failure);
+                self.boot = Boot::Over;
+                note(&mut self.handler, failure);
                 Ok(ResumeStep::Failed(failure))
             }
             JobMove::OutOfMemory => Err(Resumption { steps, job }),
@@ -172,7 +174,7 @@ impl<D: Disk> Core<D> {
         self.mem = Mem::new(alloc);
         self.trail.clear();
         self.handed_seq = self.last_seq;
-        self.failed = None;
+        self.handler.clear();
         self.boot = Boot::Cleared;
     }
 }

@@ -16,6 +16,7 @@ use crate::trail::Trail;
 use keel_base::{LAST_NUMBER, Options, OutOfMemory};
 use keel_directory::Replayed;
 use keel_disk::Disk;
+use keel_handler::Handler;
 use keel_manifest::{Manifest, NextFile};
 use keel_mem::Mem;
 use keel_open::{OpenRefusal, StoreFound, read_store};
@@ -77,6 +78,12 @@ impl<D: Disk> Core<D> {
             last_seq,
             next_file,
         } = parts;
+        let handler = Handler::new(
+            options.paranoid,
+            options.auto,
+            options.attempts,
+            options.interval,
+        );
         Core {
             disk,
             options,
@@ -92,7 +99,9 @@ impl<D: Disk> Core<D> {
             handed_seq: last_seq,
             next_file: NextFile::new(next_file),
             manifest,
-            failed: None,
+            flush: None,
+            flush_job: 0,
+            handler,
         }
     }
 }

@@ -2,7 +2,7 @@
 ghost use Rattle.std.specs.Prelude.{◌≡◌, ◌+◌, ◌<◌, ◌≤◌, ◌^◌, ◌++◌, All, OnOk, IfOk, true};
 ghost use Rattle.keel_group.specs.Forming.{EachIsAdmissible};
 ghost use Rattle.keel_machine.specs.Admission.{ops_of};
-ghost use Rattle.keel_resume.specs.Drafts.{batch_rows, count_ops};
+ghost use Rattle.keel_draft.specs.Drafts.{batch_rows, count_ops};
 ghost use Rattle.keel_machine.specs.Opening.{ops_replayed};
 ghost use Rattle.keel_core.specs.Placing.{HasRoomFor, IsOfBatches, MayBePlaced, bytes_needed};
 

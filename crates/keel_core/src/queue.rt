@@ -4,7 +4,7 @@ ghost use Rattle.std.specs.List.{list_any};
 ghost use Rattle.keel_group.specs.Forming.{EachIsAdmissible, HasRoomFor, next_batches, next_size};
 ghost use Rattle.keel_group.specs.Queue.{batches_of, tickets_of};
 ghost use Rattle.keel_machine.specs.Admission.{ops_of, outcome_kept};
-ghost use Rattle.keel_resume.specs.Drafts.{count_ops};
+ghost use Rattle.keel_draft.specs.Drafts.{count_ops};
 ghost use Rattle.keel_core.specs.Flights.{batches_flying, tickets_flying};
 ghost use Rattle.keel_machine.specs.WritingAfter.{done_each, seq_behind};
 ghost use Rattle.keel_core.specs.Queues.{given};

@@ -6,20 +6,23 @@ ghost use Rattle.keel_disk.specs.Seen.{IsArranged};
 ghost use Rattle.keel_disk.specs.Told.{Arranges};
 ghost use Rattle.keel_machine.specs.declared.answers.Outcome.TheVariants.{Waiting};
 ghost use Rattle.keel_machine.specs.Turns as event;
-ghost use Rattle.keel_machine.specs.Turns.{Admitting, TakingOutcome};
+ghost use Rattle.keel_machine.specs.Turns.{Admitting, Arranging, TakingOutcome};
 ghost use Rattle.keel_core.specs.Trails.{shown};
 ghost use Rattle.keel_core.specs.Views.{TakesTurn, last_in, calls_left, with_device, is_full, is_store_full, takes_writes};
 
 use crate::boot::Boot;
-use crate::log::{OwnLog, log_failure};
+use crate::flushing::Flushing;
+use crate::handling::stopping;
+use crate::log::OwnLog;
 use crate::queue::Queue;
 use crate::segments::Segment;
 use crate::sizes::size_refusal;
 use crate::tables::Tables;
 use crate::trail::Trail;
-use keel_base::{Batch, Counter, Fault, LAST_NUMBER, Listing, Options, OutOfMemory};
+use keel_base::{Batch, Counter, LAST_NUMBER, Listing, Options, OutOfMemory};
 use keel_disk::{Device, Disk, DiskError, Rule};
 use keel_group::MAX_WAITING;
+use keel_handler::Handler;
 use keel_machine::{Admit, Outcome};
 use keel_manifest::{Manifest, NextFile};
 use keel_mem::Mem;
@@ -46,12 +49,14 @@ pub struct Core<D: Disk> {
     pub(crate) handed_seq: u64,
     pub(crate) next_file: NextFile,
     pub(crate) manifest: Manifest,
-    // how a call of a group failed, from when on nothing is written
-    pub(crate) failed: Option<Fault>,
+    // the flush that runs, and the number of the one that runs or ran last
+    pub(crate) flush: Option<Flushing>,
+    pub(crate) flush_job: u64,
+    pub(crate) handler: Handler,
 }
 
 impl<D: Disk> Model for Core<D> {
-    ghost use Rattle.std.specs.Prelude.{length, option_map};
+    ghost use Rattle.std.specs.Prelude.{length};
     ghost use Rattle.keel_core.specs.Boots.{boot_shown, levels_in};
     ghost use Rattle.keel_core.specs.Orders.{IsInOrder};
     ghost use Rattle.keel_core.specs.Flights.{flying, log_shown};
@@ -76,12 +81,14 @@ impl<D: Disk> Model for Core<D> {
       outcomes = c.queue.outcomes.items;
       last_ticket = c.queue.last_ticket;
       job = c.queue.job;
-      failed = c.failed;
+      flush = c.flush;
+      flush_job = c.flush_job;
+      handler = c.handler;
       next_file = c.next_file.number;
-      manifest = option_map (λ used. used.number) c.manifest.in_use;
+      manifest = c.manifest;
     } };
 
-    ghost invariant = { λ c. IsInOrder c.mem c.trail c.queue (length c.segments.items) (boot_shown c.boot) c.log c.failed c.last_seq c.handed_seq c.next_file.number };
+    ghost invariant = { λ c. IsInOrder c.mem c.trail c.queue (length c.segments.items) (boot_shown c.boot) c.log c.last_seq c.handed_seq c.next_file.number };
 }
 
 impl<D: Disk> Core<D> {
@@ -90,6 +97,13 @@ impl<D: Disk> Core<D> {
         ensures { result ≡ last_in self.now }
     {
         self.last_seq
+    }
+
+    /// The options that it was opened with.
+    pub fn options(&self) -> &Options
+        ensures { result.now ≡ self.now.options }
+    {
+        &self.options
     }
 
     /// The batches since the opening.
@@ -109,8 +123,8 @@ impl<D: Disk> Core<D> {
         if !self.takes_writes() {
             return Admit::Booting;
         }
-        match self.failed {
-            Some(fault) => return Admit::Stopped(log_failure(fault)),
+        match stopping(&self.handler) {
+            Some(failure) => return Admit::Stopped(failure),
             None => {}
         }
         let ops = batch.ops.len() as u64;
@@ -171,7 +185,7 @@ impl<D: Disk> Core<D> {
     }
 
     // Whether the boot has cleared.
-    fn takes_writes(&self) -> bool
+    pub(crate) fn takes_writes(&self) -> bool
         ensures { takes_writes self.now.boot ≡ result }
     {
         matches!(self.boot, Boot::Cleared)
@@ -208,6 +222,7 @@ impl<D: Device> Core<D> {
         ensures told { Arranges self.old.device.told result self.new.device.told }
         ensures rest { IsArranged (Arranged.Armed rule) self.old.device result self.new.device }
         ensures same { self.new ≡ with_device self.new.device self.old }
+        ensures turn { TakesTurn self.old (Arranging rule result) self.new }
     {
         self.disk.arrange(alloc, rule)
     }

@@ -15,8 +15,8 @@
 //                                       v                v
 //   no group <------------------ published <-------------+
 //
-// A call that fails ends its group, unpublished, and from then on nothing is written. The group is formed once its
-// first call was made, since without memory all goes on waiting.
+// A call that fails ends its group, unpublished, and from then on no other one is formed. A failure of a flush ends no
+// group in flight. The group is formed once its first call was made, since without memory all goes on waiting.
 ghost use Rattle.std.specs.Prelude.{◌≡◌, ◌+◌, ◌<◌, ◌≤◌, ◌^◌, None, Some, IsNone, IsSome, IfNone, IfSome, IfOk, true};
 ghost use Rattle.keel_batch.specs.Batches.{payloads_behind};
 ghost use Rattle.keel_frag.specs.Writing.{records_bytes};
@@ -25,12 +25,13 @@ ghost use Rattle.keel_machine.specs.Admission.{ops_of};
 ghost use Rattle.keel_machine.specs.Tests.{first_some};
 ghost use Rattle.keel_machine.specs.Turns.{Writing};
 ghost use Rattle.keel_machine.specs.WritingAfter.{failure_of};
-ghost use Rattle.keel_resume.specs.Drafts.{count_ops};
+ghost use Rattle.keel_draft.specs.Drafts.{count_ops};
 ghost use Rattle.keel_core.specs.Flights.{is_synced, next_flying};
 ghost use Rattle.keel_core.specs.Steps.{Makes, IsNotSwitch, NextIs, formed, handed_over, spoilt, all_published, published_step, done, done_step, tried, rested, stopped};
 ghost use Rattle.keel_core.specs.Views.{TakesTurn, MakesCall, ComesNearer, CanGoOn, Cleared, IsRest, IsStill, Finds, draws_next, rest_of, rests_of};
 
 use crate::flight::{Act, first_act};
+use crate::handling::{note, stopping};
 use crate::log::{OwnLog, log_failure};
 use crate::placing::place;
 use crate::queue::count_ops;
@@ -101,11 +102,8 @@ impl<D: Disk> Core<D> {
         if batches == 0 {
             return Some(WriteStep::Idle);
         }
-        if let Some(fault) = self.failed {
-            return Some(WriteStep::Turned {
-                batches,
-                failure: log_failure(fault),
-            });
+        if let Some(failure) = stopping(&self.handler) {
+            return Some(WriteStep::Turned { batches, failure });
         }
         if self.is_store_full() {
             return Some(WriteStep::Full {
@@ -257,7 +255,6 @@ impl<D: Disk> Core<D> {
         requires none { self.old.group ≡ None }
         requires room { HasRoomFor (next_size self.old.waiting) prepared }
         requires cleared { self.old.boot ≡ Cleared }
-        requires calm { self.old.failed ≡ None }
         requires job { self.old.job < 2 ^ 56 }
         ensures { self.new ≡ formed self.old }
     {
@@ -291,7 +288,7 @@ impl<D: Disk> Core<D> {
         }
     }
 
-    // What an act leaves whose call failed: its group is over, and from now on nothing is written.
+    // What an act leaves whose call failed: its group is over, and from now on no other one is formed.
     pub(crate) fn give_up(&mut self, act: Act, fault: Fault) -> WriteStep
         requires next { next_flying self.old.group ≡ Some act }
         requires file { act ≡ Act.MakeLog → self.old.next_file < 2 ^ 56 }
@@ -301,7 +298,7 @@ impl<D: Disk> Core<D> {
         self.tried(act);
         let failure = log_failure(fault);
         self.queue.settle(Outcome::Failed(failure));
-        self.failed = Some(fault);
+        note(&mut self.handler, failure);
         WriteStep::Failed(failure)
     }
 

@@ -1,4 +1,4 @@
-use Rattle.std.proofs.Common.{sym, ◌∙◌, ◌+◌, ◌-◌, ◌≤◌, length, arith}
+use Rattle.std.proofs.Common.{sym, ◌∙◌, ◌-◌, length, arith}
 use Rattle.std.proofs.lemmas.Bool.{leb-true}
 use Rattle.keel_core.proofs.Limits.{ops_within}
 use Rattle.keel_core.proofs.placing.may_be_placed.Goals as goal

@@ -3,9 +3,9 @@ use Rattle.std.specs.Prelude.{All}
 use Rattle.keel_base.specs.declared.row.Row.{Row}
 use Rattle.keel_base.specs.Rows.{op_rows}
 use Rattle.keel_machine.specs.Admission.{ops_of}
-use Rattle.keel_resume.specs.Drafts.{count_ops}
+use Rattle.keel_draft.specs.Drafts.{count_ops}
 use Rattle.keel_core.specs.Placing.{bytes_needed}
-use Rattle.keel_resume.specs.Drafts.{batch_rows}
+use Rattle.keel_draft.specs.Drafts.{batch_rows}
 use Rattle.keel_core.proofs.Lists.{next_item}
 use Rattle.keel_core.proofs.Rooms.{below_ops}
 use Rattle.keel_core.proofs.placing.place.Goals as goal

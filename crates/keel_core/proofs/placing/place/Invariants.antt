@@ -1,9 +1,9 @@
 use Rattle.std.proofs.Common.{◌≡◌, ◌+◌, ◌<◌, ◌++◌, drop}
 use Rattle.std.specs.Prelude.{All}
 use Rattle.keel_machine.specs.Admission.{ops_of}
-use Rattle.keel_resume.specs.Drafts.{count_ops}
+use Rattle.keel_draft.specs.Drafts.{count_ops}
 use Rattle.keel_core.specs.Placing.{bytes_needed}
-use Rattle.keel_resume.specs.Drafts.{batch_rows}
+use Rattle.keel_draft.specs.Drafts.{batch_rows}
 use Rattle.keel_core.proofs.placing.place.Given as goal
 
 -- the rows so far, with those of the batches that are left, are all

@@ -1,7 +1,7 @@
-use Rattle.std.proofs.Common.{◌≡◌, ◌+◌, ◌<◌, ◌++◌, drop, length, ◌≤◌}
+use Rattle.std.proofs.Common.{◌≡◌, ◌+◌, ◌<◌, ◌++◌, drop}
 use Rattle.std.specs.Prelude.{All}
 use Rattle.keel_machine.specs.Opening.{ops_replayed}
-use Rattle.keel_resume.specs.Drafts.{batch_rows}
+use Rattle.keel_draft.specs.Drafts.{batch_rows}
 use Rattle.keel_core.proofs.placing.placed.Given as goal
 
 -- the rows so far, with those of the batches that are left, are all

@@ -1,6 +1,6 @@
 use Rattle.std.proofs.Common.{◌+◌, ◌++◌, drop, get_or, ap, sym, ◌∙◌, arith, append-nil}
 use Rattle.keel_machine.specs.Admission.{ops_of}
-use Rattle.keel_resume.specs.Drafts.{count_ops}
+use Rattle.keel_draft.specs.Drafts.{count_ops}
 use Rattle.keel_machine.specs.WritingAfter.{done_each}
 use Rattle.keel_core.proofs.Giving.{done_next, first_ticket}
 use Rattle.keel_core.proofs.Lists.{none_behind, ops_next, seq_counts}

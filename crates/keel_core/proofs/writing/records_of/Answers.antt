@@ -6,7 +6,7 @@ use Rattle.keel_batch.specs.Batches.{payloads_behind}
 use Rattle.keel_batch.specs.Spelling.{spelling}
 use Rattle.keel_frag.specs.Writing.{record_bytes, records_bytes}
 use Rattle.keel_machine.specs.Admission.{ops_of}
-use Rattle.keel_resume.specs.Drafts.{count_ops}
+use Rattle.keel_draft.specs.Drafts.{count_ops}
 use Rattle.keel_core.proofs.Batches.{is_batch}
 use Rattle.keel_core.proofs.Lists.{next_item, none_behind}
 use Rattle.keel_core.proofs.Records.{records_next, records_end}

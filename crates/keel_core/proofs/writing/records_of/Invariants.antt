@@ -2,7 +2,7 @@ use Rattle.std.proofs.Common.{◌≡◌, ◌+◌, ◌++◌, drop, length}
 use Rattle.keel_batch.specs.Batches.{payloads_behind}
 use Rattle.keel_frag.specs.Writing.{records_bytes}
 use Rattle.keel_machine.specs.Admission.{ops_of}
-use Rattle.keel_resume.specs.Drafts.{count_ops}
+use Rattle.keel_draft.specs.Drafts.{count_ops}
 use Rattle.keel_core.proofs.writing.records_of.Given as goal
 
 -- the records so far, with those of the batches that are left, are all

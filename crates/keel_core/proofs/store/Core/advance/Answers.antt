@@ -1,4 +1,4 @@
-use Rattle.std.proofs.Common.{option_map, ◌∷◌, ap, sym, ◌∙◌}
+use Rattle.std.proofs.Common.{◌∷◌}
 use Rattle.keel_core.specs.Boots.{boot_shown, levels_in}
 use Rattle.keel_core.specs.Segments.{segments_shown}
 use Rattle.keel_core.specs.Flights.{flying, log_shown}
@@ -39,11 +39,13 @@ returns-in-Moved g c =
       outcomes = w.queue.outcomes.items;
       last_ticket = w.queue.last_ticket;
       job = w.queue.job;
-      failed = w.failed;
+      flush = w.flush;
+      flush_job = w.flush_job;
+      handler = w.handler;
       next_file = w.next_file.number;
-      manifest = option_map (λ used. used.number) w.manifest.in_use;
+      manifest = w.manifest;
     } in
-    rw (← c.self.view_is, ← c.running.view_is) (tt, moved_goes old c.args.number c.running.inside.steps _ _ c.in-Moved.call c.running.invariant.way c.in-Moved.ensures)
+    rw (← c.self.view_is, ← c.running.view_is) (tt, moved_goes old c.args.number c.running.inside.steps _ _ c.in-Moved.call c.in-Moved.ensures)
 
 pub returns-in-Done : goal.returns-in-Done
 returns-in-Done g c =
@@ -64,9 +66,11 @@ returns-in-Done g c =
       outcomes = w.queue.outcomes.items;
       last_ticket = w.queue.last_ticket;
       job = w.queue.job;
-      failed = w.failed;
+      flush = w.flush;
+      flush_job = w.flush_job;
+      handler = w.handler;
       next_file = w.next_file.number;
-      manifest = option_map (λ used. used.number) w.manifest.in_use;
+      manifest = w.manifest;
     } in
     rw (c.clear.ensures, ← c.self.view_is, ← c.running.view_is) (tt, cleared_goes old c.args.number c.running.inside.steps _ _ c.in-Done.ensures)
 
@@ -89,8 +93,10 @@ returns-in-Failed g c =
       outcomes = w.queue.outcomes.items;
       last_ticket = w.queue.last_ticket;
       job = w.queue.job;
-      failed = w.failed;
+      flush = w.flush;
+      flush_job = w.flush_job;
+      handler = w.handler;
       next_file = w.next_file.number;
-      manifest = option_map (λ used. used.number) w.manifest.in_use;
+      manifest = w.manifest;
     } in
-    rw (← c.self.view_is, ← c.running.view_is) (tt, failed_goes old c.args.number c.running.inside.steps _ _ c.in-Failed.failure c.in-Failed.ensures)
+    rw (c.note.ensures, ← c.self.view_is, ← c.running.view_is) (tt, failed_goes old c.args.number c.running.inside.steps _ _ c.in-Failed.failure c.in-Failed.ensures)

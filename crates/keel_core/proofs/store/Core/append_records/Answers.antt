@@ -1,6 +1,6 @@
 use Rattle.std.proofs.Common.{ap, arith}
 use Rattle.keel_machine.specs.Admission.{ops_of}
-use Rattle.keel_resume.specs.Drafts.{count_ops}
+use Rattle.keel_draft.specs.Drafts.{count_ops}
 use Rattle.keel_core.specs.Flights.{flying}
 use Rattle.keel_core.proofs.Batches.{next_count}
 use Rattle.keel_core.proofs.store.Core.append_records.Goals as goal

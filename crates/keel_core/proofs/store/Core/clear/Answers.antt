@@ -1,4 +1,4 @@
-use Rattle.std.proofs.Common.{option_map, None, ap, ◌∙◌}
+use Rattle.std.proofs.Common.{option_map, ap, ◌∙◌}
 use Rattle.keel_machine.specs.States.{new_log}
 use Rattle.keel_core.specs.Boots.{boot_shown, levels_in}
 use Rattle.keel_core.specs.Segments.{segments_shown}
@@ -27,9 +27,11 @@ returns g c =
       outcomes = w.queue.outcomes.items;
       last_ticket = w.queue.last_ticket;
       job = w.queue.job;
-      failed = w.failed;
+      flush = w.flush;
+      flush_job = w.flush_job;
+      handler = w.handler;
       next_file = w.next_file.number;
-      manifest = option_map (λ used. used.number) w.manifest.in_use;
+      manifest = w.manifest;
     } in
     let entries = c.new.ensures.entries ∙ c.into_tables.ensures in
     rw (← c.self.view_is) (λ i. record old {
@@ -39,5 +41,5 @@ returns g c =
       rows = c.new-2.ensures.rows i;
       log = (c.log_of-self-inside.ensures.shown ∙ ap (option_map new_log) c.log.ensures) i;
       levels = lives_of (c.new.ensures.none i) (entries i);
-      failed = None;
+      handler = c.clear-3.ensures.value i;
     })

@@ -1,6 +1,3 @@
-use Rattle.std.proofs.Common.{ap, ◌∙◌}
-use Rattle.keel_core.specs.Flights.{flying}
-use Rattle.keel_core.specs.Views.{CoreView}
 use Rattle.keel_core.proofs.Entering.{entered_in_order}
 use Rattle.keel_core.proofs.store.Core.form.Goals as goal
 
@@ -8,7 +5,7 @@ pub invariant_of-self : goal.invariant_of-self
 invariant_of-self g c =
     let w = c.self.inside in
     let q = c.form.ensures in
-    entered_in_order w.mem w.trail w.queue c.form.new.self c.is_full-switches.result _ _ w.log w.failed w.last_seq w.handed_seq w.next_file.number c.self.invariant
+    entered_in_order w.mem w.trail w.queue c.form.new.self c.is_full-switches.result _ _ w.log w.last_seq w.handed_seq w.next_file.number c.self.invariant
     (rw (← c.self.view_is) at c.requires.cleared)
     (record {
       none = rw (← c.self.view_is) at c.requires.none;
@@ -20,4 +17,4 @@ invariant_of-self g c =
       each = q.each;
       few = q.few;
     })
-    (rw (← c.self.view_is) at c.requires.job) (rw (← c.self.view_is) at c.requires.calm)
+    (rw (← c.self.view_is) at c.requires.job)

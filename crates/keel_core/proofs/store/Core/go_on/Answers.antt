@@ -1,5 +1,3 @@
-use Rattle.std.proofs.Common.{rules, ap}
-use Rattle.keel_core.specs.Views.{CoreView}
 use Rattle.keel_core.proofs.Entering.{done_goes_nearer, failed_goes_nearer, flies_on}
 use Rattle.keel_core.proofs.Standing.{done_goes, failed_goes, wants_goes}
 use Rattle.keel_core.proofs.store.Core.go_on.Goals as goal

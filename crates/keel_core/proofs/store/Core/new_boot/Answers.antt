@@ -1,10 +1,8 @@
-use Rattle.std.proofs.Common.{◌≡◌, ◌+◌, ◌∷◌, ◌++◌, [], length, drop, get_or, ap, sym, subst, ◌∙◌, refl, arith}
+use Rattle.std.proofs.Common.{◌+◌, length, drop, ap, sym, subst, ◌∙◌, refl, arith}
 use Rattle.std.proofs.lemmas.List.{length-map}
 use Rattle.keel_levels.specs.declared.live.LiveTable.{LiveTable}
 use Rattle.keel_core.specs.Covering.{AreTablesFor}
 use Rattle.keel_core.specs.Views.{CoreView}
-use Rattle.keel_resume.specs.Plans.{job_of}
-use Rattle.keel_core.specs.Boots.{levels_in}
 use Rattle.keel_core.specs.Segments.{segment_shown, segments_shown}
 use Rattle.keel_core.proofs.BootCovers.{CoversTo, begin_covers, covers_all, covers_next, entries_many, has_rows, job_begins, job_goes}
 use Rattle.keel_core.proofs.BootJobs.{begins_on_way}

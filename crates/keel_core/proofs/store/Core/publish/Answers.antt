@@ -1,7 +1,7 @@
-use Rattle.std.proofs.Common.{option_map, ◌+◌, ◌++◌, length, ap, sym, ◌∙◌, arith}
+use Rattle.std.proofs.Common.{◌+◌, ◌++◌, length, ap, sym, ◌∙◌, arith}
 use Rattle.keel_machine.specs.declared.steps.WriteStep.TheVariants as step
 use Rattle.keel_machine.specs.Admission.{ops_of}
-use Rattle.keel_resume.specs.Drafts.{batch_rows, count_ops}
+use Rattle.keel_draft.specs.Drafts.{batch_rows, count_ops}
 use Rattle.keel_core.specs.Trails.{shown}
 use Rattle.keel_core.specs.Steps.{all_published}
 use Rattle.keel_core.specs.Views.{CoreView, last_in}
@@ -16,7 +16,7 @@ pub invariant_of-self : goal.invariant_of-self
 invariant_of-self g c =
     let w = c.self.inside in
     let t = c.publish.ensures in
-    published_in_order w.mem c.place.new.mem w.trail c.publish.new.self w.queue c.settle_done.new.self _ _ w.log w.failed w.last_seq w.handed_seq w.next_file.number c.args.sync _ c.self.invariant
+    published_in_order w.mem c.place.new.mem w.trail c.publish.new.self w.queue c.settle_done.new.self _ _ w.log w.last_seq w.handed_seq w.next_file.number c.args.sync _ c.self.invariant
     (record {
       waiting = ap (λ v. v.items) c.settle_done.ensures.waiting;
       group = c.settle_done.ensures.group;
@@ -57,9 +57,11 @@ returns-clause-view g c =
       outcomes = w.queue.outcomes.items;
       last_ticket = w.queue.last_ticket;
       job = w.queue.job;
-      failed = w.failed;
+      flush = w.flush;
+      flush_job = w.flush_job;
+      handler = w.handler;
       next_file = w.next_file.number;
-      manifest = option_map (λ used. used.number) w.manifest.in_use;
+      manifest = w.manifest;
     } in
     rw (← c.self.view_is) (published_view c.args.sync old _ _ _ _ _ _ _ w.last_seq (ops_of c.limbo-2.result.now) c.publish.ensures.shown rows waiting group q.outcomes q.last_ticket q.job c.self.invariant.seq (ap ops_of c.limbo-2.ensures))
 

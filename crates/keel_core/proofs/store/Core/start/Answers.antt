@@ -13,7 +13,7 @@ returns-in-Ok-make_call-clause-turn g c =
     let now = c.make_call.new.self in
     let act = c.next_act-act.result in
     let can = c.requires.can in
-    let flies = first_flies old act can.cleared can.calm c.requires.none c.next_act-act.ensures.next in
+    let flies = first_flies old act can.cleared c.requires.none c.next_act-act.ensures.next in
     rw (c.done.ensures.view, c.done.ensures.step, c.form.ensures)
     (formed_goes old old.waiting old.group _ _ (can.some c.requires.none) c.requires.none (done_call act (formed now))
     (done_goes (formed old) (formed now) act flies (made_formed act old now c.requires.none c.in-Ok-make_call.ensures)))
@@ -25,7 +25,7 @@ returns-in-Ok-make_call-clause-nearer g c =
     let act = c.next_act-act.result in
     let can = c.requires.can in
     let view = c.in-Ok-make_call.ensures.view_is in
-    let flies = first_flies old act can.cleared can.calm c.requires.none c.next_act-act.ensures.next in
+    let flies = first_flies old act can.cleared c.requires.none c.next_act-act.ensures.next in
     let made = made_formed act old now c.requires.none c.in-Ok-make_call.ensures in
     let group = ap (λ (v : CoreView). v.group) made.view_is in
     rw (c.done.ensures.view, c.done.ensures.step, c.form.ensures)
@@ -39,7 +39,7 @@ returns-in-Err-Fault-clause-turn g c =
     let act = c.next_act-act.result in
     let can = c.requires.can in
     let answered = rw c.in-Err-Fault.field-0-is at c.in-Err-Fault.ensures in
-    let flies = first_flies old act can.cleared can.calm c.requires.none c.next_act-act.ensures.next in
+    let flies = first_flies old act can.cleared c.requires.none c.next_act-act.ensures.next in
     rw (c.give_up.ensures.view, c.give_up.ensures.step, c.form-in-Err-Fault.ensures)
     (formed_goes old old.waiting old.group _ _ (can.some c.requires.none) c.requires.none tt
     (failed_goes (formed old) (formed now) act c.in-Err-Fault.fault flies (refused_formed act c.in-Err-Fault.fault old now c.requires.none answered)))

@@ -1,15 +1,15 @@
-use Rattle.std.proofs.Common.{rules, option_map, None, [], ◌∷◌, ◌++◌, ◌≡◌, ap, sym, length, ◌∙◌, arith, refl}
+use Rattle.std.proofs.Common.{rules, [], ◌∷◌, ◌++◌, ap, length, ◌∙◌, arith, refl}
 use Rattle.keel_disk.specs.declared.change.Change.TheVariants.{SyncDir}
 use Rattle.keel_core.specs.declared.flight.Act.TheVariants.{SyncDirectory}
 use Rattle.keel_core.specs.Boots.{boot_shown, levels_in}
 use Rattle.keel_core.specs.Segments.{segments_shown}
 use Rattle.keel_core.specs.Flights.{flying, log_shown}
 use Rattle.keel_core.specs.Trails.{shown}
-use Rattle.keel_core.specs.Views.{CoreView, FullSegment}
+use Rattle.keel_core.specs.Views.{CoreView}
 use Rattle.keel_core.proofs.Ordering.{switched_in_order}
 use Rattle.keel_core.proofs.Segmenting.{push_many, segments_shown-push}
 use Rattle.keel_core.proofs.Standing.{IsInFlight, failed_goes, same_wanted, switch_goes, wants_goes}
-use Rattle.keel_core.proofs.Calling.{quiet_same, quiet_want}
+use Rattle.keel_core.proofs.Calling.{quiet_want}
 use Rattle.keel_core.proofs.store.Core.switch.Goals as goal
 
 pub returns-then-len-ge-MANY_SEGMENTS-clause-turn : goal.returns-then-len-ge-MANY_SEGMENTS-clause-turn
@@ -23,7 +23,7 @@ invariant_of-self-in-Ok-sync_dir g c =
     let after = c.replace-mem.ensures.after in
     let more = push_many c.reserve.new.self.items _ _ c.push_reserved.ensures.items in
     let same = ap (λ l. length l) c.reserve.ensures.items in
-    switched_in_order w.mem c.replace-mem.new.dest w.trail w.queue c.move_on.new.self _ _ _ w.log _ w.failed w.last_seq w.handed_seq w.next_file.number c.self.invariant
+    switched_in_order w.mem c.replace-mem.new.dest w.trail w.queue c.move_on.new.self _ _ _ w.log _ w.last_seq w.handed_seq w.next_file.number c.self.invariant
     (record { waiting = q.waiting; group = q.group; outcomes = q.outcomes; ticket = q.last_ticket; job = q.job })
     (rw (← c.self.view_is) at c.requires.can.cleared)
     refl
@@ -53,9 +53,11 @@ returns-in-Ok-sync_dir-clause-turn g c =
       outcomes = w.queue.outcomes.items;
       last_ticket = w.queue.last_ticket;
       job = w.queue.job;
-      failed = w.failed;
+      flush = w.flush;
+      flush_job = w.flush_job;
+      handler = w.handler;
       next_file = w.next_file.number;
-      manifest = option_map (λ used. used.number) w.manifest.in_use;
+      manifest = w.manifest;
     } in
     let segments =
     ap segments_shown c.push_reserved.ensures.items
@@ -63,7 +65,6 @@ returns-in-Ok-sync_dir-clause-turn g c =
     ∙ (λ k. segments_shown (c.reserve.ensures.items k) ++ (record { rows = (c.replace-mem.ensures.value k).rows; logs = next.logs k }) ∷ []) in
     let flies : IsInFlight old (SyncDirectory c.args.log) = record {
       cleared = rw (← c.self.view_is) at c.requires.can.cleared;
-      calm = rw (← c.self.view_is) at c.requires.can.calm;
       on_plan = rw (← c.self.view_is) at c.requires.can.on_plan;
       next = rw (← c.self.view_is) at c.requires.next;
     } in
@@ -89,13 +90,14 @@ returns-in-Err-Fault-clause-turn g c =
       outcomes = w.queue.outcomes.items;
       last_ticket = w.queue.last_ticket;
       job = w.queue.job;
-      failed = w.failed;
+      flush = w.flush;
+      flush_job = w.flush_job;
+      handler = w.handler;
       next_file = w.next_file.number;
-      manifest = option_map (λ used. used.number) w.manifest.in_use;
+      manifest = w.manifest;
     } in
     let flies : IsInFlight old (SyncDirectory c.args.log) = record {
       cleared = rw (← c.self.view_is) at c.requires.can.cleared;
-      calm = rw (← c.self.view_is) at c.requires.can.calm;
       on_plan = rw (← c.self.view_is) at c.requires.can.on_plan;
       next = rw (← c.self.view_is) at c.requires.next;
     } in
@@ -122,9 +124,11 @@ returns-clause-turn g c =
       outcomes = w.queue.outcomes.items;
       last_ticket = w.queue.last_ticket;
       job = w.queue.job;
-      failed = w.failed;
+      flush = w.flush;
+      flush_job = w.flush_job;
+      handler = w.handler;
       next_file = w.next_file.number;
-      manifest = option_map (λ used. used.number) w.manifest.in_use;
+      manifest = w.manifest;
     } in
     rw (← c.self.view_is) (wants_goes old (record old { device = D.seen c.sync_dir.new.self; immutable = segments_shown c.reserve.new.self.items })
     (record { quiet = quiet_want SyncDir _ _ (search rules); view_is = λ k. record old { device = D.seen c.sync_dir.new.self; immutable = segments_shown (c.reserve.ensures.items k) } }))

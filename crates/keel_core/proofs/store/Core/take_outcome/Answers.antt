@@ -8,7 +8,7 @@ pub invariant_of-self : goal.invariant_of-self
 invariant_of-self g c =
     let w = c.self.inside in
     let q = c.take_outcome.ensures in
-    taken_in_order w.mem w.trail w.queue c.take_outcome.new.self _ _ w.log w.failed w.last_seq w.handed_seq w.next_file.number c.args.ticket c.self.invariant
+    taken_in_order w.mem w.trail w.queue c.take_outcome.new.self _ _ w.log w.last_seq w.handed_seq w.next_file.number c.args.ticket c.self.invariant
     (ap (λ v. v.items) q.waiting) q.group q.outcomes q.len q.room q.last_ticket q.job
 
 pub returns-clause-turn : goal.returns-clause-turn
@@ -20,4 +20,4 @@ pub returns-clause-waits : goal.returns-clause-waits
 returns-clause-waits g c =
     let q = c.take_outcome.ensures in
     let w = c.self.inside in
-    rw (← c.self.view_is) (λ waits. waits_left (flying w.queue.group) w.queue.waiting.items w.queue.outcomes.items c.args.ticket w.failed c.self.invariant.staged c.self.invariant.settled (sym q.outcome ∙ waits))
+    rw (← c.self.view_is) (λ waits. waits_left (flying w.queue.group) w.queue.waiting.items w.queue.outcomes.items c.args.ticket c.self.invariant.staged c.self.invariant.settled (sym q.outcome ∙ waits))
