@@ -14,11 +14,12 @@ use Rattle.keel_machine.specs.declared.steps.WriteStep.{WriteStep}
 use Rattle.keel_machine.specs.declared.steps.WriteStep.TheVariants as step
 use Rattle.keel_machine.specs.Admission.{last_seq, outcome_kept, is_on_its_way, outcome_of, queued, is_full}
 use Rattle.keel_machine.specs.States.{State, Story, Group, Slot, Act, CloseLog, MakeLog, SyncDirectory, AddRecords, SyncLog, Writing, left_of, point_of, published, is_open}
-use Rattle.keel_machine.specs.Turns.{Event, Opening, Admitting, Writing as Makes, Resuming, TakingOutcome, Getting, Scanning, Listing, Crashing, Finishing, Turn, after}
+use Rattle.keel_machine.specs.Turns.{Event, Opening, Admitting, Writing as Makes, Resuming, Flushing, TakingOutcome, Getting, Scanning, Listing, TellingError, TellingLevels, Arranging, Crashing, Finishing, Turn, after}
 use Rattle.keel_machine.specs.Writing.{ready, started, started_or, group_plan}
 use Rattle.keel_machine.specs.WritingAfter.{seq_behind, done_each, file_drawn, with_made, with_log, switched, log_longer, batches_handed, goes_on, act_done, act_failed, first_done, first_failed, group_done, group_failed, call_done, call_failed, queue_turned, write_after}
 use Rattle.keel_recovery.specs.Machine.{MayCall}
-use Rattle.keel_resume.specs.Drafts.{count_ops}
+use Rattle.keel_draft.specs.Drafts.{count_ops}
+use Rattle.keel_cli.proofs.Beside.{beside}
 use Rattle.keel_cli.proofs.Flooring.{firm_seq, firm_published, published_firm, firm_resumed}
 use Rattle.keel_cli.proofs.Tickets.{any, given}
 
@@ -376,11 +377,18 @@ answer_fresh s (Resuming drafts held made) device may fresh =
     let more = firm_resumed s drafts made in
     fresh_on s (after s (Resuming drafts held made) device) may
     (λ ticket. synced_same ticket s.writing.last_ticket s (after s (Resuming drafts held made) device) more.writing more.group more.firm) fresh
+answer_fresh s (Flushing draft held made) device may fresh =
+    let same = beside s draft made in
+    fresh_on s (after s (Flushing draft held made) device) may
+    (λ ticket. synced_same ticket s.writing.last_ticket s (after s (Flushing draft held made) device) same.writing same.group (omega (arith, ap firm_seq same.story))) fresh
 answer_fresh s (TakingOutcome taken out) device may fresh =
     fresh_on s (after s (TakingOutcome taken out) device) may (λ ticket. synced_taken ticket s.writing.last_ticket s taken out device) fresh
 answer_fresh s (Getting key got) device may fresh = seen_fresh s device fresh
 answer_fresh s (Scanning from to scanned) device may fresh = seen_fresh s device fresh
 answer_fresh s (Listing answer) device may fresh = seen_fresh s device fresh
+answer_fresh s (TellingError standing) device may fresh = seen_fresh s device fresh
+answer_fresh s (TellingLevels view) device may fresh = seen_fresh s device fresh
+answer_fresh s (Arranging rule answer) device may fresh = seen_fresh s device fresh
 answer_fresh s (Crashing pick (Some count)) device may fresh = λ opens. cc
 answer_fresh s (Crashing pick None) device may fresh = λ opens. cc
 answer_fresh s Finishing device may fresh = absurd may

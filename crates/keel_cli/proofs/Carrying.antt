@@ -7,7 +7,10 @@ use Rattle.keel_disk.specs.declared.error.DiskError.{DiskError}
 use Rattle.keel_disk.specs.declared.error.DiskError.TheVariants as disk
 use Rattle.keel_disk.specs.Counts.{disk_fault}
 use Rattle.keel_disk.specs.Listings.{IsListing}
-use Rattle.keel_disk.specs.Told.{Told, Crashes, TellsListing}
+use Rattle.keel_disk.specs.declared.rule.Rule.{Rule}
+use Rattle.keel_disk.specs.Told.{Arranges, Told, Crashes, TellsListing}
+use Rattle.keel_base.specs.declared.failure.Failure.{Failure}
+use Rattle.keel_machine.specs.declared.answers.LevelsView.{LevelsView}
 use Rattle.keel_disk.specs.Seen.{Seen, IsQuiet, IsArranged}
 use Rattle.keel_machine.specs.declared.answers.Got.{Got}
 use Rattle.keel_machine.specs.declared.answers.Got.TheVariants as got
@@ -20,7 +23,7 @@ use Rattle.keel_machine.specs.States.{State, Footing, Known, Unknown, Phase, Shu
 use Rattle.keel_machine.specs.States as machine
 use Rattle.keel_disk.specs.declared.rule.Arranged.TheVariants as arranged
 use Rattle.keel_disk.specs.declared.rule.Pick.{Pick}
-use Rattle.keel_machine.specs.Turns.{Event, Turn, Answers, after, behind, Opening, Getting, Scanning, Listing, Crashing}
+use Rattle.keel_machine.specs.Turns.{Event, Turn, Answers, after, behind, Opening, Getting, Scanning, Listing, TellingError, TellingLevels, Arranging, Crashing}
 use Rattle.keel_machine.specs.Crash.{crash_after}
 use Rattle.keel_base.specs.declared.options.Options.{Options}
 use Rattle.keel_disk.specs.Sound.{IsAtRest}
@@ -38,16 +41,18 @@ use Rattle.keel_machine.specs.States.{is_open}
 use Rattle.keel_recovery.proofs.Crashing.{crash_turns}
 use Rattle.keel_recovery.proofs.GoingOn.{covered_reads}
 use Rattle.keel_script.specs.declared.command.Command.{Command}
-use Rattle.keel_script.specs.declared.command.Command.TheVariants.{Open, Get, Scan, Files, Crash}
+use Rattle.keel_script.specs.declared.command.Command.TheVariants.{Open, Get, Scan, Error, Files, Levels, Fail, Capacity, Crash}
 use Rattle.keel_script.specs.declared.reply.Reply.{Reply}
 use Rattle.keel_script.specs.declared.reply.Reply.TheVariants as reply
 use Rattle.keel_cli.specs.declared.answer.Answer.{Answer}
 use Rattle.keel_cli.specs.declared.answer.Answer.TheVariants as answers
+use Rattle.keel_cli.specs.Arranging.{arranged_replies, rule_of, ArrangeRun, ArrangeCut}
 use Rattle.keel_cli.specs.Cuts.{StoreCutShort, CarriedOut}
 use Rattle.keel_cli.specs.Stores.{StoreView, IsShut, Shows, Stands, is_one_open, Leads, Leaves, CoreLeads, AreTold, StandsForSome}
 use Rattle.keel_cli.specs.Stores as view
 use Rattle.keel_cli.specs.Replies.{replies_of}
 use Rattle.keel_cli.specs.Runs.{fault_replies, opening_replies, listing_replies, reading_replies, rest_reply, row_replies, scan_replies, GetRun, ScanRun, CrashRun, Calls, RestsOrCalls, CarriesOnStore, CallsPartly}
+use Rattle.keel_cli.specs.Telling.{error_reply, ErrorRun, level_replies}
 use Rattle.keel_cli.proofs.Tickets.{stays_told, told_in, told_by}
 
 -- ---- commands that make no call, and those that make some
@@ -68,7 +73,7 @@ module _ (options : Options) where
 opened_in : (boot : BootShown) → is_open (phase_of boot) ≡ true
 opened_in ToStart = refl
 opened_in (Running resumption) = refl
-opened_in (Over failure) = refl
+opened_in Over = refl
 opened_in Cleared = refl
 
 pub open_mode : (core : CoreView) (s : State) → StandsFor core s → is_open s.mode.phase ≡ true
@@ -124,7 +129,7 @@ forgotten_stands : (core : CoreView) (s : State) → StandsFor core s → Stands
 forgotten_stands core s stands = record {
   beyond = record stands.beyond { footing = Unknown };
   state_is = ap forgotten stands.state_is;
-  fits = record { story = stands.fits.story; segments = stands.fits.segments; tables = stands.fits.tables; opened = tt; leads = stands.fits.leads };
+  fits = record { story = stands.fits.story; segments = stands.fits.segments; tables = stands.fits.tables; opened = tt; leads = stands.fits.leads; met = stands.fits.met; handled = stands.fits.handled; flushes = stands.fits.flushes };
 }
 
 -- a read leaves a core that stands for some state
@@ -237,6 +242,97 @@ module _ (options : Options) (s : State) (command : Command) (old new : CoreView
       answered options s command new r a ok err
       (map_ok r (λ x leads. (leads.0, leads.1, calls_on_store options s leads.0 command (x ∷ []) at (calls (x ∷ []) leads.0 leads.2))) carried)
       (map_err r (λ leads. (leads.0, leads.1, cut_short leads.0 (cuts leads.0 leads.2))) cut)
+
+-- ---- what a store tells of itself
+
+pub error_run : (core : CoreView) (standing : Option Failure) (told : Reply) (s : State) → StandsFor core s → TakesTurn core (TellingError standing) core
+    → told ≡ error_reply core.options.paranoid standing → CoreLeads core (ErrorRun s (told ∷ []))
+error_run core standing told s stands turns is =
+    let went = turns.goes s stands in
+    let same : core.options ≡ s.options = sym (ap (λ (t : State). t.options) stands.state_is) in
+    let prints : told ≡ error_reply s.options.paranoid standing = is ∙ ap (λ (o : Options). error_reply o.paranoid standing) same in
+    (after s (TellingError standing) core.device, went.1, record { standing = standing; turn = (went.0, refl); prints = ap (λ (r : Reply). r ∷ []) prints })
+
+module _ (options : Options) (core : CoreView) (s : State) (stands : StandsFor core s) where
+  pub error_told : (told : Reply) → CoreLeads core (ErrorRun s (told ∷ [])) → CarriedOut {E = OutOfMemory} options s Error (view.Open core) (Ok (answers.One told))
+  error_told told leads = (leads.0, leads.1, calls_on_store options s leads.0 Error (told ∷ []) (none_where s true Error (open_mode core s stands) refl) leads.2)
+
+  pub levels_told : (levels : LevelsView) → TakesTurn core (TellingLevels levels) core → CarriedOut {E = OutOfMemory} options s Levels (view.Open core) (Ok (answers.Levels levels))
+  levels_told levels turns =
+      let went = turns.goes s stands in
+      let next = after s (TellingLevels levels) core.device in
+      (next, went.1, calls_on_store options s next Levels (level_replies levels) (none_where s true Levels (open_mode core s stands) refl) (record { view = levels; turn = (went.0, refl); prints = refl }))
+
+-- ---- what is arranged on the device
+
+pub arrange_told : (old new : CoreView) (rule : Rule) (answer : Result Bool OutOfMemory) → TakesTurn old (Arranging rule answer) new → StandsForSome old → StandsForSome new
+arrange_told old new rule answer turns told = stays_told old new (Arranging rule answer) turns (λ s told_. told_) told
+
+-- of a device that is called where no store is open
+pub arranged_shut : (s : State) (rule : Rule) (before shows : Seen) (answer : Result Bool OutOfMemory) → IsShut before s → IfOk answer (λ done. done ≡ before.simulated)
+    → Arranges before.told answer shows.told → IsArranged (arranged.Armed rule) before answer shows → Leads (view.Closed shows) (Turn s (Arranging rule answer))
+arranged_shut s rule before shows answer shut done told rest =
+    let is : s.device ≡ before = shut.device in
+    (with_device shows s, record { shut = shut.shut; device = refl }, (rw is (record { done = done; told = told; rest = rest }), refl))
+
+pub arranged_open : (s : State) (rule : Rule) (core new : CoreView) (answer : Result Bool OutOfMemory) → StandsFor core s → TakesTurn core (Arranging rule answer) new
+    → Leads (view.Open new) (Turn s (Arranging rule answer))
+arranged_open s rule core new answer stands turns =
+    let went = turns.goes s stands in
+    (after s (Arranging rule answer) new.device, went.1, (went.0, refl))
+
+no_error : {P : Type 0} (done : Bool) → IsErr (let r : Result Bool OutOfMemory = Ok done in r) → P
+no_error done h = absurd cc
+
+-- a command that asks for a rule makes a call, and arranges that one
+record Asks (options : Options) (s : State) (command : Command) (rule : Rule) : Type 0 where
+  none : (b : Bool) → rest_reply b command ≡ None
+  calls : (replies : List Reply) (next : State) → ArrangeRun s rule replies next → Calls options s command replies next
+  cuts : (next : State) → ArrangeCut s rule next → CallsPartly options s command next
+
+asks : (options : Options) (s : State) (command : Command) (rule : Rule) → rule_of command ≡ Some rule → Asks options s command rule
+asks options s (Fail call fault_ skip times keep) rule is = record {
+  none = none_of_fail;
+  calls = λ replies next run. subst (λ (r : Rule). ArrangeRun s r replies next) (sym (the_rule is)) run;
+  cuts = λ next cut. subst (λ (r : Rule). ArrangeCut s r next) (sym (the_rule is)) cut;
+}
+  where
+    the_rule : {a b : Rule} → Some a ≡ Some b → a ≡ b
+    the_rule same = cc
+
+    none_of_fail : (b : Bool) → rest_reply b (Fail call fault_ skip times keep) ≡ None
+    none_of_fail true = refl
+    none_of_fail false = refl
+asks options s (Capacity bytes) rule is = record {
+  none = none_of_capacity;
+  calls = λ replies next run. subst (λ (r : Rule). ArrangeRun s r replies next) (sym (the_rule is)) run;
+  cuts = λ next cut. subst (λ (r : Rule). ArrangeCut s r next) (sym (the_rule is)) cut;
+}
+  where
+    the_rule : {a b : Rule} → Some a ≡ Some b → a ≡ b
+    the_rule same = cc
+
+    none_of_capacity : (b : Bool) → rest_reply b (Capacity bytes) ≡ None
+    none_of_capacity true = refl
+    none_of_capacity false = refl
+asks options s command rule is = none_rule is
+  where
+    none_rule : {P : Type 0} {r : Rule} → None ≡ Some r → P
+    none_rule same = cc
+
+module _ (options : Options) (s : State) (command : Command) (rule : Rule) (store : StoreView) (is : rule_of command ≡ Some rule) where
+  pub has_arranged : (answer : Result Bool OutOfMemory) (r : Result Reply OutOfMemory) (a : Result Answer OutOfMemory)
+      → Leads store (Turn s (Arranging rule answer)) → IfOk r (λ x. arranged_replies rule answer ≡ Some (x ∷ [])) → (IsErr r → IsErr answer)
+      → IfOk r (λ x. a ≡ Ok (answers.One x)) → (IsErr r → IsErr a) → CarriedOut options s command store a
+  has_arranged answer (Ok x) a leads printed cut ok err =
+      let it = asks options s command rule is in
+      subst (CarriedOut options s command store) (sym ok)
+      (leads.0, leads.1, calls_on_store options s leads.0 command (x ∷ []) (it.none (is_open s.mode.phase)) (it.calls (x ∷ []) leads.0 (record { answer = answer; turn = leads.2; prints = printed })))
+  has_arranged (Ok done) (Err e) a leads printed cut ok err = no_error done (cut refl)
+  has_arranged (Err wants) (Err e) (Ok y) leads printed cut ok err = no_err y (err refl)
+  has_arranged (Err wants) (Err e) (Err f) leads printed cut ok err =
+      let it = asks options s command rule is in
+      (leads.0, shows_own store leads.0 leads.1, partly_on_store options s leads.0 command (it.none (is_open s.mode.phase)) (it.cuts leads.0 (wants, leads.2)))
 
 -- ---- openings
 

@@ -1,39 +1,42 @@
--- What every write step and every resume step of the machine has, each of a run has.
+-- What every write step, every resume step and every flush step of the machine has, each of a run has.
 use Rattle.std.proofs.Common.{◌≡◌, ℕ, zero, suc, Bool, true, false, Option, None, Some, List, [], ◌∷◌, refl, inl, inr}
 use Rattle.keel_base.specs.declared.op.Batch.{Batch}
 use Rattle.keel_machine.specs.declared.answers.Admit.TheVariants as admit
 use Rattle.keel_machine.specs.declared.answers.Outcome.TheVariants as outcome
 use Rattle.keel_base.specs.declared.options.Options.{Options}
-use Rattle.keel_resume.specs.Drafts.{Draft}
+use Rattle.keel_draft.specs.Drafts.{Draft}
+use Rattle.keel_machine.specs.declared.steps.JobStep.{JobStep}
+use Rattle.keel_machine.specs.declared.steps.JobStep.TheVariants as job_step
 use Rattle.keel_machine.specs.declared.steps.ResumeStep.{ResumeStep as BootStep}
 use Rattle.keel_machine.specs.declared.steps.ResumeStep.TheVariants as boot_step
 use Rattle.keel_machine.specs.declared.steps.WriteStep.{WriteStep}
 use Rattle.keel_machine.specs.declared.steps.WriteStep.TheVariants as step
 use Rattle.keel_machine.specs.States.{State}
-use Rattle.keel_machine.specs.Turns.{Event, Resuming, Writing, Turn}
+use Rattle.keel_machine.specs.Turns.{Event, Resuming, Writing, Flushing, Turn}
 use Rattle.keel_recovery.specs.Machine.{MayCall}
 use Rattle.keel_machine.specs.States.{is_open}
 use Rattle.keel_script.specs.declared.command.Command.{Command}
-use Rattle.keel_script.specs.declared.command.Command.TheVariants.{SetOption, Put, Del, Write, ResumeStep, Drain, Tick}
+use Rattle.keel_script.specs.declared.command.Command.TheVariants.{SetOption, Put, Del, Write, Flush, ResumeStep, Drain, Tick}
 use Rattle.keel_script.specs.declared.reply.Reply.{Reply}
 use Rattle.keel_cli.specs.declared.lines.LineStop.{LineStop}
 use Rattle.keel_cli.specs.declared.lines.LineStop.TheVariants.{Refused, Unwritten, NoMemory}
 use Rattle.keel_cli.specs.declared.lines.StopPlace.{StopPlace}
 use Rattle.keel_cli.specs.Cuts.{StoreCutShort, CutShort}
-use Rattle.keel_cli.specs.Drains.{Round, Rounds, DrainRun, DrainCut}
+use Rattle.keel_cli.specs.Drains.{Wrote, Round, Rounds, DrainRun, DrainCut}
 use Rattle.keel_cli.specs.LineEnds.{Stops, LinesEnd}
-use Rattle.keel_cli.specs.Inside.{OfStep, EachWait, EachPut, EachPutCut, EachOfRound, EachRound, EachDrain, EachDrainCut, EachCall, EachOnStore, EachOf, EachPartly, EachStoreCut, EachCut, EachRun, EachStopped, EachEnd}
+use Rattle.keel_cli.specs.Inside.{OfStep, EachWait, EachPut, EachPutCut, EachOfWrote, EachOfRound, EachRound, EachDrain, EachDrainCut, EachCall, EachOnStore, EachOf, EachPartly, EachStoreCut, EachCut, EachRun, EachStopped, EachEnd}
 use Rattle.keel_cli.specs.Puts.{put_batch, del_batch, Waits, PutRun, PutCut}
 use Rattle.keel_cli.specs.Runs.{rest_reply, Calls, RestsOrCalls, Carries, CallsPartly, Run}
 use Rattle.keel_cli.specs.Sessions.{Session}
-use Rattle.keel_cli.proofs.Keeping.{IsKept, admitted, booted, taken, waited, went, carried, progressed}
+use Rattle.keel_cli.proofs.Keeping.{IsKept, admitted, booted, taken, waited, went, wrote, carried, progressed}
 
 none_some : {A P : Type 0} (x : A) → Some x ≡ None → P
 none_some x e = cc
 
 module _ (C : State → Type 0) (keep : (old new : State) (event : Event) → MayCall old event → Turn old event new → C old → C new) (Has : OfStep)
     (has : (old new : State) (made : WriteStep) → is_open old.mode.phase ≡ true → Turn old (Writing None made) new → C old → Has old (Writing None made) new)
-    (has_boot : (old new : State) (drafts : List Draft) (made : BootStep) → is_open old.mode.phase ≡ true → Turn old (Resuming drafts None made) new → C old → Has old (Resuming drafts None made) new) where
+    (has_boot : (old new : State) (drafts : List Draft) (made : BootStep) → is_open old.mode.phase ≡ true → Turn old (Resuming drafts None made) new → C old → Has old (Resuming drafts None made) new)
+    (has_flush : (old new : State) (draft : Draft) (made : JobStep) → Turn old (Flushing draft None made) new → C old → Has old (Flushing draft None made) new) where
   -- ---- writes and drains
 
   each_wait : (old new : State) (ticket : ℕ) (steps : List WriteStep) (waits : Waits old ticket steps new) → IsKept C keep old → EachWait Has old ticket steps new waits
@@ -56,10 +59,15 @@ module _ (C : State → Type 0) (keep : (old new : State) (event : Event) → Ma
   each_put_cut old new batch (inr cut) is =
       each_wait cut.2.mid new cut.0 (step.OutOfMemory ∷ cut.1) cut.2.waits (admitted C keep old cut.2.mid batch (admit.Queued cut.0) cut.2.queued is)
 
+  each_of_wrote : (limit made : ℕ) (old : State) (moves : ℕ) (new : State) (half : Wrote limit made old moves new) → IsKept C keep old → EachOfWrote Has limit made old moves new half
+  each_of_wrote limit made old moves new half is =
+      let before = booted C keep old half.mid half.of_boot half.boot is in
+      (has_boot old half.mid half.boot.drafts half.boot.step is.opened half.boot.turn is.kept, has half.mid new half.write.step before.opened half.write.turn before.kept)
+
   each_of_round : (limit made : ℕ) (old : State) (moves : ℕ) (new : State) (round : Round limit made old moves new) → IsKept C keep old → EachOfRound Has limit made old moves new round
   each_of_round limit made old moves new round is =
-      let before = booted C keep old round.mid round.of_boot round.boot is in
-      (has_boot old round.mid round.boot.drafts round.boot.step is.opened round.boot.turn is.kept, has round.mid new round.write.step before.opened round.write.turn before.kept)
+      let before = wrote C keep limit made old round.before round.behind round.wrote is in
+      (each_of_wrote limit made old round.before round.behind round.wrote is, has_flush round.behind new round.flush.draft round.flush.step round.flush.turn before.kept)
 
   each_round : (limit : ℕ) (old : State) (rounds made : ℕ) (new : State) (gone : Rounds limit old rounds made new) → IsKept C keep old → EachRound Has limit old rounds made new gone
   each_round limit old zero made new same is = tt
@@ -76,18 +84,29 @@ module _ (C : State → Type 0) (keep : (old new : State) (event : Event) → Ma
   each_drain limit old new replies (inr (inl more)) is =
       let before = went C keep limit old more.begun.rounds more.made more.last more.begun.went is in
       (each_round limit old more.begun.rounds more.made more.last more.begun.went is, has_boot more.last new more.boot.drafts more.boot.step before.opened more.boot.turn before.kept)
-  each_drain limit old new replies (inr (inr more)) is = each_round limit old more.rounds limit new more.went is
+  each_drain limit old new replies (inr (inr (inl more))) is = (
+    each_round limit old more.begun.rounds more.made more.last more.begun.went is,
+    each_of_wrote limit more.made more.last more.moves new more.wrote (went C keep limit old more.begun.rounds more.made more.last more.begun.went is),
+  )
+  each_drain limit old new replies (inr (inr (inr more))) is = each_round limit old more.rounds limit new more.went is
 
   each_drain_cut : (limit : ℕ) (old new : State) (cut : DrainCut limit old new) → IsKept C keep old → EachDrainCut Has limit old new cut
   each_drain_cut limit old new (inl cut) is =
       let before = went C keep limit old cut.begun.rounds cut.made cut.last cut.begun.went is in
       (each_round limit old cut.begun.rounds cut.made cut.last cut.begun.went is, has_boot cut.last new cut.drafts boot_step.OutOfMemory before.opened cut.turn before.kept)
-  each_drain_cut limit old new (inr cut) is =
+  each_drain_cut limit old new (inr (inl cut)) is =
       let before = went C keep limit old cut.begun.rounds cut.made cut.last cut.begun.went is in
       let at = booted C keep cut.last cut.mid cut.of_boot cut.boot before in (
         each_round limit old cut.begun.rounds cut.made cut.last cut.begun.went is,
         has_boot cut.last cut.mid cut.boot.drafts cut.boot.step before.opened cut.boot.turn before.kept,
         has cut.mid new step.OutOfMemory at.opened cut.turn at.kept,
+      )
+  each_drain_cut limit old new (inr (inr cut)) is =
+      let before = went C keep limit old cut.begun.rounds cut.made cut.last cut.begun.went is in
+      let at = wrote C keep limit cut.made cut.last cut.moves cut.behind cut.wrote before in (
+        each_round limit old cut.begun.rounds cut.made cut.last cut.begun.went is,
+        each_of_wrote limit cut.made cut.last cut.moves cut.behind cut.wrote before,
+        has_flush cut.behind new cut.draft job_step.OutOfMemory cut.turn at.kept,
       )
 
   -- ---- commands
@@ -100,6 +119,8 @@ module _ (C : State → Type 0) (keep : (old new : State) (event : Event) → Ma
   each_call options false old new (Del key sync) replies opened none run kept = none_some _ none
   each_call options true old new Write replies opened none run kept = has old new run.step opened run.turn kept
   each_call options false old new Write replies opened none run kept = none_some _ none
+  each_call options true old new Flush replies opened none run kept = has_flush old new run.draft run.step run.turn kept
+  each_call options false old new Flush replies opened none run kept = none_some _ none
   each_call options true old new ResumeStep replies opened none run kept = has_boot old new run.drafts run.step opened run.turn kept
   each_call options false old new ResumeStep replies opened none run kept = none_some _ none
   each_call options true old new (Drain moves) replies opened none run kept = each_drain moves old new replies run (record { opened = opened; kept = kept })
@@ -119,6 +140,8 @@ module _ (C : State → Type 0) (keep : (old new : State) (event : Event) → Ma
   each_partly options false old new (Del key sync) opened none cut kept = none_some _ none
   each_partly options true old new Write opened none turn kept = has old new step.OutOfMemory opened turn kept
   each_partly options false old new Write opened none turn kept = none_some _ none
+  each_partly options true old new Flush opened none cut kept = has_flush old new cut.0 job_step.OutOfMemory cut.1 kept
+  each_partly options false old new Flush opened none cut kept = none_some _ none
   each_partly options true old new ResumeStep opened none cut kept = has_boot old new cut.0 boot_step.OutOfMemory opened cut.1 kept
   each_partly options false old new ResumeStep opened none cut kept = none_some _ none
   each_partly options true old new (Drain moves) opened none cut kept = each_drain_cut moves old new cut (record { opened = opened; kept = kept })

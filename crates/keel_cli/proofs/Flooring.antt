@@ -19,16 +19,17 @@ use Rattle.keel_disk.specs.Plain.{image_read}
 use Rattle.keel_machine.specs.Crash.{has_story, LeavesOf, Leaves}
 use Rattle.keel_machine.specs.Opening.{goes_on_from, story_opened, GoesOnWith}
 use Rattle.keel_machine.specs.Resuming as boot
-use Rattle.keel_resume.specs.Drafts.{Draft, count_ops}
+use Rattle.keel_draft.specs.Drafts.{Draft, count_ops}
 use Rattle.keel_resume.specs.Plans as plans
 use Rattle.keel_group.specs.Queue.{Ticketed}
 use Rattle.keel_machine.specs.States.{State, Footing, Known, Unknown, Phase, Shut, Booting, Open, Leaving, Nothing, Crashed, Left, Mode, Story, Group, Act, CloseLog, MakeLog, SyncDirectory, AddRecords, SyncLog, Resumption, is_open, is_left, handed, published, cut_story, point_of, left_of}
-use Rattle.keel_machine.specs.Turns.{Event, Opening, Admitting, Writing as Makes, Resuming, TakingOutcome, Getting, Scanning, Listing, Crashing, Finishing, Turn, Answers, after}
+use Rattle.keel_machine.specs.Turns.{Event, Opening, Admitting, Writing as Makes, Resuming, Flushing, TakingOutcome, Getting, Scanning, Listing, TellingError, TellingLevels, Arranging, Crashing, Finishing, Turn, Answers, after}
 use Rattle.keel_machine.specs.Writing.{started, started_or, ready}
 use Rattle.keel_machine.specs.WritingAfter.{goes_on, switched, with_made, act_done, first_done, first_failed, group_done, group_failed, call_done, call_failed, write_after}
 use Rattle.keel_recovery.specs.Machine.{MayCall}
 use Rattle.keel_recovery.proofs.Numbering.{seq_folded, counted_append}
 use Rattle.keel_recovery.proofs.Unchanged.{unmoved_ready, unmoved_done, unmoved_failed}
+use Rattle.keel_cli.proofs.Beside.{beside, open_flushed}
 use Rattle.keel_cli.proofs.Modes.{mode_written, open_resumed}
 
 -- ---- ops of first batches
@@ -186,13 +187,13 @@ boot_done : (running : Option Resumption) (s : State) → IsFirmer s (boot.boot_
 boot_done None s = same_boot s
 boot_done (Some running) s = boot_first running (plans.left_of running.job) s
 
-boot_first_failed : (left : List plans.Act) (failure : Failure) (s : State) → IsFirmer s (boot.first_failed left failure s)
-boot_first_failed [] failure s = same_boot s
-boot_first_failed (act ∷ later) failure s = record { footing = refl; writing = refl; group = refl; firm = omega arith }
+boot_first_failed : (job : plans.Job) (left : List plans.Act) (failure : Failure) (s : State) → IsFirmer s (boot.first_failed job left failure s)
+boot_first_failed job [] failure s = same_boot s
+boot_first_failed job (act ∷ later) failure s = record { footing = refl; writing = refl; group = refl; firm = omega arith }
 
 boot_failed : (running : Option Resumption) (failure : Failure) (s : State) → IsFirmer s (boot.boot_failed running failure s)
 boot_failed None failure s = same_boot s
-boot_failed (Some running) failure s = boot_first_failed (plans.left_of running.job) failure s
+boot_failed (Some running) failure s = boot_first_failed running.job (plans.left_of running.job) failure s
 
 boot_called : (drafts : List Draft) (s : State) → IsFirmer s (boot.call_done drafts s)
 boot_called drafts s =
@@ -295,10 +296,16 @@ answer_held number s (Makes written made) device may a held =
 answer_held number s (Resuming drafts job made) device may a held =
     let more = firm_resumed s drafts made in
     still_held number s (after s (Resuming drafts job made) device) may (open_resumed s drafts made may) more.footing more.firm held
+answer_held number s (Flushing draft job made) device may a held =
+    let same = beside s draft made in
+    still_held number s (after s (Flushing draft job made) device) may (open_flushed s draft made may) same.footing (omega (arith, ap firm_seq same.story)) held
 answer_held number s (TakingOutcome ticket outcome) device may a held = held
 answer_held number s (Getting key got) device may a held = held
 answer_held number s (Scanning from to scanned) device may a held = held
 answer_held number s (Listing answer) device may a held = held
+answer_held number s (TellingError standing) device may a held = held
+answer_held number s (TellingLevels view) device may a held = held
+answer_held number s (Arranging rule answer) device may a held = held
 answer_held number s (Crashing pick (Some count)) device may a held = λ known.
     crashed_held s.mode.phase s.mode.left number count s.story (left_least s.footing s.mode s.story count s.device.told device.told a.leaves) (held known)
 answer_held number s (Crashing pick None) device may a held = λ known. cc
@@ -314,10 +321,14 @@ known_before s (Opening options (Err refused)) device known = known
 known_before s (Admitting batch answer) device known = sym (firm_admitted s batch answer).1 ∙ known
 known_before s (Makes written made) device known = sym (footing_written s made) ∙ known
 known_before s (Resuming drafts job made) device known = sym (firm_resumed s drafts made).footing ∙ known
+known_before s (Flushing draft job made) device known = sym (beside s draft made).footing ∙ known
 known_before s (TakingOutcome ticket outcome) device known = known
 known_before s (Getting key got) device known = known
 known_before s (Scanning from to scanned) device known = known
 known_before s (Listing answer) device known = known
+known_before s (TellingError standing) device known = known
+known_before s (TellingLevels view) device known = known
+known_before s (Arranging rule answer) device known = known
 known_before s (Crashing pick (Some count)) device known = known
 known_before s (Crashing pick None) device known = cc
 known_before s Finishing device known = known

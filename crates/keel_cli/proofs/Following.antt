@@ -11,19 +11,22 @@ use Rattle.keel_disk.specs.Seen.{Seen}
 use Rattle.keel_group.specs.Forming.{next_size}
 use Rattle.keel_group.specs.Queue.{Ticketed, batches_of}
 use Rattle.keel_machine.specs.Admission.{ops_of, batches_of_group, queued}
+use Rattle.keel_machine.specs.Flushing.{flush_after}
 use Rattle.keel_machine.specs.Opening.{Found, opened, story_opened, goes_on_from, GoesOnWith}
 use Rattle.keel_machine.specs.Resuming as boot
-use Rattle.keel_machine.specs.States.{State, Footing, Known, Unknown, Phase, Shut, Booting, Open, Leaving, Nothing, Crashed, Left, Story, Group, Act, CloseLog, MakeLog, SyncDirectory, AddRecords, SyncLog, Resumption, is_open, is_left, left_of, cut_story}
+use Rattle.keel_machine.specs.States.{State, Footing, Known, Unknown, Phase, Shut, Booting, Open, Leaving, Nothing, Crashed, Left, Story, Group, Act, CloseLog, MakeLog, SyncDirectory, AddRecords, SyncLog, Resumption, Slot, Writing, is_open, is_left, left_of, cut_story}
 use Rattle.keel_machine.specs.Writing.{ready, started, started_or}
 use Rattle.keel_machine.specs.WritingAfter.{with_made, with_log, log_longer, file_drawn, switched, batches_handed, goes_on, act_done, act_failed, first_done, first_failed, group_done, group_failed, call_done, call_failed, queue_turned, write_after}
+use Rattle.keel_machine.specs.declared.steps.JobStep.{JobStep}
 use Rattle.keel_machine.specs.declared.steps.ResumeStep.{ResumeStep}
 use Rattle.keel_machine.specs.declared.steps.ResumeStep.TheVariants as boot_step
 use Rattle.keel_machine.specs.declared.steps.WriteStep.{WriteStep}
 use Rattle.keel_machine.specs.declared.steps.WriteStep.TheVariants as step
 use Rattle.keel_recovery.specs.Machine.{ops_waiting}
-use Rattle.keel_resume.specs.Drafts.{Draft}
+use Rattle.keel_draft.specs.Drafts.{Draft}
 use Rattle.keel_resume.specs.Plans as plans
 use Rattle.keel_cli.specs.ReadClaim.{Acked, found_to}
+use Rattle.keel_cli.proofs.Beside.{beside}
 use Rattle.keel_cli.proofs.Ledger.{FreeOf, AllFree, free_append, free_none, Lasts, Logged, logged_append, lasts_take, lasts_append}
 
 -- the log has the last write, and neither limbo nor the group in flight has another
@@ -219,13 +222,13 @@ module _ (key : List ℕ) (last : Option Acked) where
   boot_done None s has = has
   boot_done (Some running) s has = boot_first running (plans.left_of running.job) s has
 
-  boot_first_failed : (left : List plans.Act) (failure : Failure) (s : State) → HasLast key last s → HasLast key last (boot.first_failed left failure s)
-  boot_first_failed [] failure s has = has
-  boot_first_failed (act ∷ later) failure s has = record { story = record { logged = has.story.logged; limbo = has.story.limbo; group = has.story.group }; waits = has.waits }
+  boot_first_failed : (job : plans.Job) (left : List plans.Act) (failure : Failure) (s : State) → HasLast key last s → HasLast key last (boot.first_failed job left failure s)
+  boot_first_failed job [] failure s has = has
+  boot_first_failed job (act ∷ later) failure s has = record { story = record { logged = has.story.logged; limbo = has.story.limbo; group = has.story.group }; waits = has.waits }
 
   boot_failed : (running : Option Resumption) (failure : Failure) (s : State) → HasLast key last s → HasLast key last (boot.boot_failed running failure s)
   boot_failed None failure s has = has
-  boot_failed (Some running) failure s has = boot_first_failed (plans.left_of running.job) failure s has
+  boot_failed (Some running) failure s has = boot_first_failed running.job (plans.left_of running.job) failure s has
 
   boot_called : (drafts : List Draft) (s : State) → HasLast key last s → HasLast key last (boot.call_done drafts s)
   boot_called drafts s has =
@@ -242,6 +245,19 @@ module _ (key : List ℕ) (last : Option Acked) where
   last_resumed s drafts (boot_step.Spent counter) has = has
   last_resumed s drafts (boot_step.Cancelled job current) has = has
   last_resumed s drafts boot_step.OutOfMemory has = has
+
+  -- a flush step is beside all that
+  pub last_flushed : (s : State) (draft : Draft) (made : JobStep) → HasLast key last s → HasLast key last (flush_after s draft made)
+  last_flushed s draft made has =
+      let same = beside s draft made in
+      record {
+        story = record {
+          logged = subst (λ (story : Story). Logged key last story.start story.log) (sym same.story) has.story.logged;
+          limbo = subst (λ (story : Story). AllFree key last story.limbo) (sym same.story) has.story.limbo;
+          group = subst (λ (slot : Slot Group). AllFree key last (ops_of (batches_of_group slot.running))) (sym same.group) has.story.group;
+        };
+        waits = subst (λ (w : Writing). AllFree key last (ops_waiting w.waiting)) (sym same.writing) has.waits;
+      }
 
 -- ---- where no store is open
 

@@ -4,35 +4,39 @@ use Rattle.keel_base.specs.declared.op.Batch.{Batch}
 use Rattle.keel_base.specs.declared.option_name.OptionName.{OptionName}
 use Rattle.keel_disk.specs.declared.error.DiskError.TheVariants as disk
 use Rattle.keel_disk.specs.declared.rule.Pick.{Pick}
+use Rattle.keel_disk.specs.declared.rule.Rule.TheVariants as rule
 use Rattle.keel_machine.specs.declared.answers.Admit.{Admit}
 use Rattle.keel_machine.specs.declared.answers.Admit.TheVariants as admit
 use Rattle.keel_machine.specs.declared.answers.Got.TheVariants as got
 use Rattle.keel_machine.specs.declared.answers.Scanned.TheVariants as scanned
 use Rattle.keel_machine.specs.declared.answers.Outcome.{Outcome}
 use Rattle.keel_machine.specs.declared.answers.Outcome.TheVariants as outcome
+use Rattle.keel_machine.specs.declared.steps.JobStep.{JobStep}
+use Rattle.keel_machine.specs.declared.steps.JobStep.TheVariants as job_step
 use Rattle.keel_machine.specs.declared.steps.ResumeStep.{ResumeStep as BootStep}
 use Rattle.keel_machine.specs.declared.steps.ResumeStep.TheVariants as boot_step
 use Rattle.keel_machine.specs.declared.steps.WriteStep.{WriteStep}
 use Rattle.keel_machine.specs.declared.steps.WriteStep.TheVariants as step
 use Rattle.keel_machine.specs.States.{State, Mode}
-use Rattle.keel_machine.specs.Turns.{Event, Opening, Admitting, Writing, Resuming, TakingOutcome, Getting, Scanning, Listing, Crashing, Turn}
+use Rattle.keel_machine.specs.Turns.{Event, Opening, Admitting, Writing, Resuming, Flushing, TakingOutcome, Getting, Scanning, Listing, TellingError, TellingLevels, Arranging, Crashing, Turn}
 use Rattle.keel_base.specs.declared.options.Options.{Options}
 use Rattle.keel_open.specs.declared.refusal.OpenRefusal.TheVariants as refusal
-use Rattle.keel_resume.specs.Drafts.{Draft}
+use Rattle.keel_draft.specs.Drafts.{Draft}
 use Rattle.keel_recovery.specs.Machine.{MayCall}
 use Rattle.keel_machine.specs.States.{is_open}
 use Rattle.keel_script.specs.declared.command.Command.{Command}
-use Rattle.keel_script.specs.declared.command.Command.TheVariants.{SetOption, Open, Put, Del, QueuePut, QueueDel, Write, ResumeStep, Drain, Tick, Get, Scan, Files, Crash}
+use Rattle.keel_script.specs.declared.command.Command.TheVariants.{SetOption, Open, Put, Del, QueuePut, QueueDel, Write, Flush, ResumeStep, Drain, Tick, Get, Scan, Error, Files, Levels, Fail, Capacity, Crash}
 use Rattle.keel_script.specs.declared.reply.Reply.{Reply}
 use Rattle.keel_cli.specs.declared.lines.LineStop.{LineStop}
 use Rattle.keel_cli.specs.declared.lines.LineStop.TheVariants.{Refused, Unwritten, NoMemory}
 use Rattle.keel_cli.specs.declared.lines.StopPlace.{StopPlace}
 use Rattle.keel_cli.specs.Cuts.{StoreCutShort, CutShort}
-use Rattle.keel_cli.specs.Drains.{BootMoves, Round, Rounds, DrainRun, DrainCut}
+use Rattle.keel_cli.specs.Drains.{BootMoves, Wrote, Round, Rounds, DrainRun, DrainCut}
 use Rattle.keel_cli.specs.LineEnds.{Progress, Stops, LinesEnd}
 use Rattle.keel_cli.specs.Puts.{put_batch, del_batch, PutRun, PutCut, QueueRun, Queues, Waits}
 use Rattle.keel_cli.specs.Runs.{rest_reply, CrashRun, Calls, RestsOrCalls, CarriesOnStore, SetRun, Carries, CallsPartly, Run}
 use Rattle.keel_cli.specs.Sessions.{Session}
+use Rattle.keel_cli.proofs.Beside.{open_flushed}
 use Rattle.keel_cli.proofs.Modes.{mode_written, mode_admitted, open_resumed}
 
 none_some : {A P : Type 0} (x : A) → Some x ≡ None → P
@@ -68,6 +72,12 @@ module _ (C : State → Type 0) (keep : (old new : State) (event : Event) → Ma
     kept = keep old new (Resuming drafts held made) is.opened turn is.kept;
   }
 
+  pub flushed : (old new : State) (draft : Draft) (held : Option ℕ) (made : JobStep) → Turn old (Flushing draft held made) new → IsKept old → IsKept new
+  flushed old new draft held made turn is = record {
+    opened = ap (λ (s : State). is_open s.mode.phase) turn.1 ∙ open_flushed old draft made is.opened;
+    kept = keep old new (Flushing draft held made) is.opened turn is.kept;
+  }
+
   -- ---- writes
 
   pub waited : (old new : State) (ticket : ℕ) (steps : List WriteStep) → Waits old ticket steps new → IsKept old → IsKept new
@@ -98,8 +108,12 @@ module _ (C : State → Type 0) (keep : (old new : State) (event : Event) → Ma
   pub booted : (old new : State) (moves : ℕ) → BootMoves old moves new → IsKept old → IsKept new
   booted old new moves boot is = resumed old new boot.drafts None boot.step boot.turn is
 
+  pub wrote : (limit made : ℕ) (old : State) (moves : ℕ) (new : State) → Wrote limit made old moves new → IsKept old → IsKept new
+  wrote limit made old moves new half is = written half.mid new None half.write.step half.write.turn (booted old half.mid half.of_boot half.boot is)
+
   gone_round : (limit made : ℕ) (old : State) (moves : ℕ) (new : State) → Round limit made old moves new → IsKept old → IsKept new
-  gone_round limit made old moves new round is = written round.mid new None round.write.step round.write.turn (booted old round.mid round.of_boot round.boot is)
+  gone_round limit made old moves new round is =
+      flushed round.behind new round.flush.draft None round.flush.step round.flush.turn (wrote limit made old round.before round.behind round.wrote is)
 
   pub went : (limit : ℕ) (old : State) (rounds made : ℕ) (new : State) → Rounds limit old rounds made new → IsKept old → IsKept new
   went limit old zero made new same is = rw same.1 is
@@ -110,14 +124,19 @@ module _ (C : State → Type 0) (keep : (old new : State) (event : Event) → Ma
       (gone_round limit quiet.made quiet.last 0 new quiet.round (went limit old quiet.begun.rounds quiet.made quiet.last quiet.begun.went is)).kept
   drained limit old new replies (inr (inl more)) is =
       (booted more.last new more.of_boot more.boot (went limit old more.begun.rounds more.made more.last more.begun.went is)).kept
-  drained limit old new replies (inr (inr more)) is = (went limit old more.rounds limit new more.went is).kept
+  drained limit old new replies (inr (inr (inl more))) is =
+      (wrote limit more.made more.last more.moves new more.wrote (went limit old more.begun.rounds more.made more.last more.begun.went is)).kept
+  drained limit old new replies (inr (inr (inr more))) is = (went limit old more.rounds limit new more.went is).kept
 
   drain_cut : (limit : ℕ) (old new : State) → DrainCut limit old new → IsKept old → C new
   drain_cut limit old new (inl cut) is =
       (resumed cut.last new cut.drafts None boot_step.OutOfMemory cut.turn (went limit old cut.begun.rounds cut.made cut.last cut.begun.went is)).kept
-  drain_cut limit old new (inr cut) is =
+  drain_cut limit old new (inr (inl cut)) is =
       let before = booted cut.last cut.mid cut.of_boot cut.boot (went limit old cut.begun.rounds cut.made cut.last cut.begun.went is) in
       (written cut.mid new None step.OutOfMemory cut.turn before).kept
+  drain_cut limit old new (inr (inr cut)) is =
+      let before = wrote limit cut.made cut.last cut.moves cut.behind cut.wrote (went limit old cut.begun.rounds cut.made cut.last cut.begun.went is) in
+      (flushed cut.behind new cut.draft None job_step.OutOfMemory cut.turn before).kept
 
   -- ---- commands on the store
 
@@ -138,6 +157,8 @@ module _ (C : State → Type 0) (keep : (old new : State) (event : Event) → Ma
   calls options false old new (QueueDel client key sync) replies opened none run kept = none_some _ none
   calls options true old new Write replies opened none run kept = (written old new None run.step run.turn (record { opened = opened; kept = kept })).kept
   calls options false old new Write replies opened none run kept = none_some _ none
+  calls options true old new Flush replies opened none run kept = (flushed old new run.draft None run.step run.turn (record { opened = opened; kept = kept })).kept
+  calls options false old new Flush replies opened none run kept = none_some _ none
   calls options true old new ResumeStep replies opened none run kept = (resumed old new run.drafts None run.step run.turn (record { opened = opened; kept = kept })).kept
   calls options false old new ResumeStep replies opened none run kept = none_some _ none
   calls options true old new (Scan from to) replies opened none run kept = keep old new (Scanning from to run.answer) opened run.turn kept
@@ -146,7 +167,13 @@ module _ (C : State → Type 0) (keep : (old new : State) (event : Event) → Ma
   calls options false old new (Get key) replies opened none run kept = none_some _ none
   calls options true old new (Drain moves) replies opened none run kept = drained moves old new replies run (record { opened = opened; kept = kept })
   calls options false old new (Drain moves) replies opened none run kept = none_some _ none
+  calls options true old new Error replies opened none run kept = keep old new (TellingError run.standing) opened run.turn kept
+  calls options false old new Error replies opened none run kept = none_some _ none
+  calls options true old new Levels replies opened none run kept = keep old new (TellingLevels run.view) opened run.turn kept
+  calls options false old new Levels replies opened none run kept = none_some _ none
   calls options b old new Files replies opened none run kept = keep old new (Listing run.answer) tt run.turn kept
+  calls options b old new (Fail call fault skip times keep_) replies opened none run kept = keep old new (Arranging (rule.Fail call fault skip times keep_) run.answer) tt run.turn kept
+  calls options b old new (Capacity bytes) replies opened none run kept = keep old new (Arranging (rule.Capacity bytes) run.answer) tt run.turn kept
   calls options b old new (Crash dirops keep_ garbage seed) replies opened none run kept =
       crashed old.device.simulated old new (record { dirops = dirops; keep = keep_; garbage = garbage; seed = seed }) replies run kept
   calls options b old new command replies opened none run kept = absurd run
@@ -172,6 +199,8 @@ module _ (C : State → Type 0) (keep : (old new : State) (event : Event) → Ma
   partly options false old new (QueueDel client key sync) opened none turn kept = none_some _ none
   partly options true old new Write opened none turn kept = (written old new None step.OutOfMemory turn (record { opened = opened; kept = kept })).kept
   partly options false old new Write opened none turn kept = none_some _ none
+  partly options true old new Flush opened none cut kept = (flushed old new cut.0 None job_step.OutOfMemory cut.1 (record { opened = opened; kept = kept })).kept
+  partly options false old new Flush opened none cut kept = none_some _ none
   partly options true old new ResumeStep opened none cut kept = (resumed old new cut.0 None boot_step.OutOfMemory cut.1 (record { opened = opened; kept = kept })).kept
   partly options false old new ResumeStep opened none cut kept = none_some _ none
   partly options true old new (Scan from to) opened none turn kept = keep old new (Scanning from to scanned.OutOfMemory) opened turn kept
@@ -181,6 +210,8 @@ module _ (C : State → Type 0) (keep : (old new : State) (event : Event) → Ma
   partly options true old new (Drain moves) opened none cut kept = drain_cut moves old new cut (record { opened = opened; kept = kept })
   partly options false old new (Drain moves) opened none cut kept = none_some _ none
   partly options b old new Files opened none turn kept = keep old new (Listing (Err disk.OutOfMemory)) tt turn kept
+  partly options b old new (Fail call fault skip times keep_) opened none cut kept = keep old new (Arranging (rule.Fail call fault skip times keep_) (Err cut.0)) tt cut.1 kept
+  partly options b old new (Capacity bytes) opened none cut kept = keep old new (Arranging (rule.Capacity bytes) (Err cut.0)) tt cut.1 kept
   partly options b old new command opened none cut kept = absurd cut
 
   store_cut : (options : Options) (old new : State) (command : Command) → StoreCutShort options old command new → C old → C new

@@ -8,7 +8,7 @@ use Rattle.keel_base.specs.declared.op.Op.TheVariants.{Put, Del}
 use Rattle.keel_base.specs.Keys.{key_cmp, key_eq}
 use Rattle.keel_base.specs.Points.{Point, Values, after_op, after_ops, after_batch, fold_batches}
 use Rattle.keel_recovery.proofs.Numbering.{seq_folded, folded_append}
-use Rattle.keel_resume.specs.Drafts.{count_ops}
+use Rattle.keel_draft.specs.Drafts.{count_ops}
 use Rattle.keel_cli.specs.ReadClaim.{Acked}
 
 -- ---- ops that leave a key alone

@@ -10,6 +10,7 @@ pub mod Driving
 pub mod Listings
 pub mod Ending
 pub mod Modes
+pub mod Beside
 pub mod Keeping
 pub mod Each
 pub mod Flooring

@@ -10,7 +10,7 @@ use Rattle.keel_machine.specs.declared.steps.ResumeStep.{ResumeStep}
 use Rattle.keel_machine.specs.declared.steps.ResumeStep.TheVariants as boot_step
 use Rattle.keel_machine.specs.Admission.{admit_after}
 use Rattle.keel_machine.specs.Resuming as boot
-use Rattle.keel_resume.specs.Drafts.{Draft}
+use Rattle.keel_draft.specs.Drafts.{Draft}
 use Rattle.keel_resume.specs.Plans as plans
 use Rattle.keel_cli.specs.Stores.{AreTold}
 use Rattle.keel_group.specs.Queue.{Ticketed}
@@ -107,13 +107,13 @@ open_done : (running : Option Resumption) (s : State) → is_open s.mode.phase �
 open_done None s opened = opened
 open_done (Some running) s opened = open_first running (plans.left_of running.job) s opened
 
-mode_first_stopped : (left : List plans.Act) (failure : Failure) (s : State) → (boot.first_failed left failure s).mode ≡ s.mode
-mode_first_stopped [] failure s = refl
-mode_first_stopped (act ∷ later) failure s = refl
+mode_first_stopped : (job : plans.Job) (left : List plans.Act) (failure : Failure) (s : State) → (boot.first_failed job left failure s).mode ≡ s.mode
+mode_first_stopped job [] failure s = refl
+mode_first_stopped job (act ∷ later) failure s = refl
 
 mode_stopped : (running : Option Resumption) (failure : Failure) (s : State) → (boot.boot_failed running failure s).mode ≡ s.mode
 mode_stopped None failure s = refl
-mode_stopped (Some running) failure s = mode_first_stopped (plans.left_of running.job) failure s
+mode_stopped (Some running) failure s = mode_first_stopped running.job (plans.left_of running.job) failure s
 
 open_behind_call : (drafts : List Draft) (s : State) → is_open s.mode.phase ≡ true → is_open (boot.call_done drafts s).mode.phase ≡ true
 open_behind_call drafts s opened =
@@ -146,13 +146,13 @@ queue_done : (running : Option Resumption) (s : State) → (boot.boot_done runni
 queue_done None s = refl
 queue_done (Some running) s = queue_first running (plans.left_of running.job) s
 
-queue_first_stopped : (left : List plans.Act) (failure : Failure) (s : State) → (boot.first_failed left failure s).writing ≡ s.writing
-queue_first_stopped [] failure s = refl
-queue_first_stopped (act ∷ later) failure s = refl
+queue_first_stopped : (job : plans.Job) (left : List plans.Act) (failure : Failure) (s : State) → (boot.first_failed job left failure s).writing ≡ s.writing
+queue_first_stopped job [] failure s = refl
+queue_first_stopped job (act ∷ later) failure s = refl
 
 queue_stopped : (running : Option Resumption) (failure : Failure) (s : State) → (boot.boot_failed running failure s).writing ≡ s.writing
 queue_stopped None failure s = refl
-queue_stopped (Some running) failure s = queue_first_stopped (plans.left_of running.job) failure s
+queue_stopped (Some running) failure s = queue_first_stopped running.job (plans.left_of running.job) failure s
 
 queue_behind_call : (drafts : List Draft) (s : State) → (boot.call_done drafts s).writing ≡ s.writing
 queue_behind_call drafts s =

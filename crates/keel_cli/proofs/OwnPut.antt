@@ -8,6 +8,7 @@ use Rattle.keel_directory.specs.TableFiles.{TableFile}
 use Rattle.keel_disk.specs.Seen.{Seen}
 use Rattle.keel_disk.specs.State.{State as Disk}
 use Rattle.keel_disk.specs.Told.{Told}
+use Rattle.keel_flush.specs.Plans.{Job as FlushJob}
 use Rattle.keel_group.specs.Queue.{Ticketed, tickets_of}
 use Rattle.keel_machine.proofs.FirstTests.{none_first, none_of, none_mapped}
 use Rattle.keel_machine.specs.Admission.{outcome_kept, is_on_its_way, outcome_of, stopping, ops_of, batches_of_group}
@@ -20,6 +21,7 @@ use Rattle.keel_machine.specs.declared.answers.Outcome.{Outcome}
 use Rattle.keel_machine.specs.declared.answers.Outcome.TheVariants as outcome
 use Rattle.keel_machine.specs.declared.steps.WriteStep.{WriteStep}
 use Rattle.keel_machine.specs.declared.steps.WriteStep.TheVariants as step
+use Rattle.keel_manifest.specs.State.{ManifestState}
 use Rattle.keel_recovery.specs.Machine.{IsCovered, IsCoveredBy, KeptBy, HoldsBy, TurnKeeps, ops_waiting}
 use Rattle.keel_cli.specs.Puts.{Waits}
 use Rattle.keel_cli.specs.ReadClaim.{Acked}
@@ -34,18 +36,19 @@ use Rattle.keel_cli.proofs.Tickets.{given}
 -- ---- nothing is in limbo where a group is to be formed
 
 none_by : (o : Option SegmentLog) (state : Disk) (levels : List TableFile) (story : Story) (immutable : List Segment) (batches : List (List Op)) (waiting : List Ticketed) (stops : Option Failure) (running : Option Group)
-    (next_file in_tables : ℕ) → stops ≡ None → running ≡ None → HoldsBy o state levels story immutable batches waiting stops running next_file in_tables → story.limbo ≡ []
-none_by None state levels story immutable batches waiting stops running next_file in_tables none no_group h = absurd h
-none_by (Some log) state levels story immutable batches waiting None None next_file in_tables none no_group h = h.order.1
-none_by (Some log) state levels story immutable batches waiting None (Some group) next_file in_tables none no_group h = cc
-none_by (Some log) state levels story immutable batches waiting (Some failure) running next_file in_tables none no_group h = cc
+    (next_file in_tables : ℕ) (flush : Option FlushJob) (manifest : ManifestState) → stops ≡ None → running ≡ None
+    → HoldsBy o state levels story immutable batches waiting stops running next_file in_tables flush manifest → story.limbo ≡ []
+none_by None state levels story immutable batches waiting stops running next_file in_tables flush manifest none no_group h = absurd h
+none_by (Some log) state levels story immutable batches waiting None None next_file in_tables flush manifest none no_group h = h.order.1
+none_by (Some log) state levels story immutable batches waiting None (Some group) next_file in_tables flush manifest none no_group h = cc
+none_by (Some log) state levels story immutable batches waiting (Some failure) running next_file in_tables flush manifest none no_group h = cc
 
 none_kept : (phase : Phase) (b : Bool) (state : Disk) (s : State) → is_open phase ≡ true → stopping s ≡ None → s.jobs.write.running ≡ None → KeptBy phase b state s → s.story.limbo ≡ []
 none_kept Shut b state s opened none no_group h = cc
 none_kept Booting b state s opened none no_group h = h.kept.after.none_in_limbo
 none_kept Open b state s opened none no_group h =
     none_by s.segments.active.log state s.levels s.story s.segments.immutable s.segments.active.batches s.writing.waiting (stopping s) s.jobs.write.running s.numbers.next_file s.numbers.in_tables
-    none no_group h.stored
+    s.jobs.flush.running s.numbers.manifest none no_group h.stored
 
 none_covered : (footing : Footing) (told : Option Told) (s : State) → footing ≡ Known → is_open s.mode.phase ≡ true → stopping s ≡ None → s.jobs.write.running ≡ None
     → IsCoveredBy footing s.mode told s → s.story.limbo ≡ []

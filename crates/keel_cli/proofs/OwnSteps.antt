@@ -13,7 +13,7 @@ use Rattle.keel_machine.specs.States.{State, Group, Act, CloseLog, MakeLog, Sync
 use Rattle.keel_machine.specs.Writing.{started, started_or}
 use Rattle.keel_machine.specs.WritingAfter.{done_each, file_drawn, with_made, with_log, switched, log_longer, batches_handed, goes_on, act_done, act_failed, first_done, first_failed, group_done, group_failed}
 use Rattle.keel_recovery.proofs.Numbering.{seq_folded, folded_append}
-use Rattle.keel_resume.specs.Drafts.{count_ops}
+use Rattle.keel_draft.specs.Drafts.{count_ops}
 use Rattle.keel_cli.specs.ReadClaim.{Acked}
 use Rattle.keel_cli.proofs.Following.{HasStory, HasLast, story_group, story_group_failed}
 use Rattle.keel_cli.proofs.Owning.{kept_skip, Lacks, given_none, done_none, Paired, done_own, given_own, paired_ends, OwnLast, Formed, formed, Stage, Behind, staged, tailed, synced, plan_staged, one_dropped}

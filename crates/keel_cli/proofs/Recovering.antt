@@ -16,6 +16,7 @@ use Rattle.keel_cli.specs.declared.lines.StopPlace.{StopPlace}
 use Rattle.keel_cli.specs.LineEnds.{LinesEnd}
 use Rattle.keel_cli.specs.Sessions.{Session, Begins, MayBegin, unopened}
 use Rattle.keel_cli.specs.Standing.{NoneForged, Recovers, TurnIsSafe}
+use Rattle.keel_recovery.proofs.SafeFlushes.{flushes_are_safe}
 use Rattle.keel_recovery.proofs.SafeResumes.{resumes_are_safe}
 use Rattle.keel_recovery.proofs.SafeSteps.{steps_are_safe}
 use Rattle.keel_cli.specs.Inside.{EachEnd}
@@ -67,6 +68,7 @@ pub safe_inside : (stop : Option StopPlace) (footing : Footing) (handed_in : See
 safe_inside stop footing handed_in first last held holds lines may begins ends =
     each_end IsCovered turns_keep TurnIsSafe (λ old new made opened turn covered. steps_are_safe old new None made opened turn covered)
     (λ old new drafts made opened turn covered. resumes_are_safe boots_keep old new drafts None made opened turn covered)
+    (λ old new draft made turn covered. flushes_are_safe old new draft None made turn covered)
     stop first last held holds lines ends (first_covered footing handed_in first begins may)
 
 -- no opening is behind a synced write that was acknowledged

@@ -27,33 +27,36 @@ use Rattle.keel_machine.specs.declared.answers.Got.TheVariants as got
 use Rattle.keel_machine.specs.declared.answers.Part.TheVariants as part
 use Rattle.keel_machine.specs.declared.answers.Outcome.{Outcome}
 use Rattle.keel_machine.specs.declared.answers.Outcome.TheVariants as outcome
+use Rattle.keel_machine.specs.declared.steps.JobStep.{JobStep}
 use Rattle.keel_machine.specs.declared.steps.ResumeStep.{ResumeStep as BootStep}
 use Rattle.keel_machine.specs.declared.steps.WriteStep.{WriteStep}
 use Rattle.keel_machine.specs.Admission.{admit_after}
+use Rattle.keel_machine.specs.Flushing.{flush_after}
 use Rattle.keel_machine.specs.Opening.{Found}
 use Rattle.keel_machine.specs.Reads.{WhereKnown, contents, in_range, IsRowOf, AreRowsOf}
 use Rattle.keel_machine.specs.Resuming.{resume_after}
 use Rattle.keel_machine.specs.States.{State, Footing, Known, Unknown, Mode, Leaving, Nothing, Crashed, Left, is_open}
-use Rattle.keel_machine.specs.Turns.{Event, Opening, Admitting, Writing as Makes, Resuming, TakingOutcome, Getting, Scanning, Crashing, Turn, after}
+use Rattle.keel_machine.specs.Turns.{Event, Opening, Admitting, Writing as Makes, Resuming, Flushing, TakingOutcome, Getting, Scanning, Crashing, Turn, after}
 use Rattle.keel_machine.specs.WritingAfter.{write_after}
 use Rattle.keel_recovery.specs.Machine.{MayCall, IsCovered, TurnKeeps}
-use Rattle.keel_resume.specs.Drafts.{Draft}
+use Rattle.keel_draft.specs.Drafts.{Draft}
 use Rattle.keel_script.specs.declared.command.Command.{Command}
-use Rattle.keel_script.specs.declared.command.Command.TheVariants.{SetOption, Open, Put, Del, QueuePut, QueueDel, Write, ResumeStep, Drain, Tick, Get, Scan, Files, Crash}
+use Rattle.keel_script.specs.declared.command.Command.TheVariants.{SetOption, Open, Put, Del, QueuePut, QueueDel, Write, Flush, ResumeStep, Drain, Tick, Get, Scan, Error, Files, Levels, Fail, Capacity, Crash}
 use Rattle.keel_script.specs.declared.reply.Reply.{Reply}
 use Rattle.keel_script.specs.declared.reply.Reply.TheVariants as reply
 use Rattle.keel_cli.specs.declared.lines.StopPlace.{StopPlace}
 use Rattle.keel_cli.specs.Answers.{answered_of, answered_in}
-use Rattle.keel_cli.specs.Drains.{BootMoves, Round, Rounds, DrainRun}
+use Rattle.keel_cli.specs.Drains.{BootMoves, Wrote, Round, Rounds, DrainRun}
 use Rattle.keel_cli.specs.LineEnds.{LinesEnd}
 use Rattle.keel_cli.specs.Puts.{put_batch, del_batch, refusal_replies, outcome_replies, Waits, PutSettled, PutRun, QueueRun}
 use Rattle.keel_cli.specs.ReadClaim.{Acked, behind_write, behind_queued, found_to, behind_opening, last_write, Shows, RowsShow, HasRow, HasValue, ShowsRows, is_within, IsShown, AreShown, ReadsRight}
 use Rattle.keel_cli.specs.Runs.{opening_replies, fault_replies, reading_replies, row_replies, scan_replies, rest_reply, CrashRun, RestsOrCalls, SetRun, Carries, Run}
 use Rattle.keel_cli.specs.Sessions.{Session, Begins, unopened}
 use Rattle.keel_cli.proofs.Flooring.{was_known}
-use Rattle.keel_cli.proofs.Following.{HasLast, HeldBy, Holds, holds_open, open_holds, holds_none, last_seen, last_written, last_queued, last_resumed, crashed_holds, opens}
+use Rattle.keel_cli.proofs.Following.{HasLast, HeldBy, Holds, holds_open, open_holds, holds_none, last_seen, last_written, last_queued, last_resumed, last_flushed, crashed_holds, opens}
 use Rattle.keel_cli.proofs.Keeping.{IsKept, admitted, waited, carried, run, stopped}
 use Rattle.keel_cli.proofs.Ledger.{key_of, value_of, FreeOf, lasts_end}
+use Rattle.keel_cli.proofs.Beside.{open_flushed}
 use Rattle.keel_cli.proofs.Modes.{mode_written, mode_admitted, open_resumed}
 use Rattle.keel_cli.proofs.Owning.{OwnLast, own_joined}
 use Rattle.keel_cli.proofs.OwnSteps.{IsOwn}
@@ -92,6 +95,14 @@ module _ (key : List ℕ) (last : Option Acked) where
     has = λ known.
         subst (HasLast key last) (sym turn.1)
         (last_seen key last (resume_after old drafts made) new.device (last_resumed key last old drafts made (is.has (was_known old new (Resuming drafts held made) turn known))));
+  }
+
+  held_flushed : (old new : State) (draft : Draft) (held : Option ℕ) (made : JobStep) → Turn old (Flushing draft held made) new → IsHeld key last old → IsHeld key last new
+  held_flushed old new draft held made turn is = record {
+    opened = ap (λ (s : State). is_open s.mode.phase) turn.1 ∙ open_flushed old draft made is.opened;
+    has = λ known.
+        subst (HasLast key last) (sym turn.1)
+        (last_seen key last (flush_after old draft made) new.device (last_flushed key last old draft made (is.has (was_known old new (Flushing draft held made) turn known))));
   }
 
   has_admitted : (s : State) (batch : Batch) (answer : Admit) → FreeOf key last batch.ops → HasLast key last s → HasLast key last (admit_after s batch answer)
@@ -165,9 +176,13 @@ module _ (key : List ℕ) (last : Option Acked) where
   held_boots : (old new : State) (moves : ℕ) → BootMoves old moves new → IsHeld key last old → IsHeld key last new
   held_boots old new moves boot is = held_resumed old new boot.drafts None boot.step boot.turn is
 
+  held_wrote : (limit made : ℕ) (old : State) (moves : ℕ) (new : State) → Wrote limit made old moves new → IsHeld key last old → IsHeld key last new
+  held_wrote limit made old moves new half is =
+      held_written half.mid new None half.write.step half.write.turn (held_boots old half.mid half.of_boot half.boot is)
+
   held_round : (limit made : ℕ) (old : State) (moves : ℕ) (new : State) → Round limit made old moves new → IsHeld key last old → IsHeld key last new
   held_round limit made old moves new round is =
-      held_written round.mid new None round.write.step round.write.turn (held_boots old round.mid round.of_boot round.boot is)
+      held_flushed round.behind new round.flush.draft None round.flush.step round.flush.turn (held_wrote limit made old round.before round.behind round.wrote is)
 
   held_rounds : (limit : ℕ) (old : State) (rounds made : ℕ) (new : State) → Rounds limit old rounds made new → IsHeld key last old → IsHeld key last new
   held_rounds limit old zero made new same is = rw same.1 is
@@ -178,7 +193,9 @@ module _ (key : List ℕ) (last : Option Acked) where
       held_round limit quiet.made quiet.last 0 new quiet.round (held_rounds limit old quiet.begun.rounds quiet.made quiet.last quiet.begun.went is)
   held_drained limit old new replies (inr (inl more)) is =
       held_boots more.last new more.of_boot more.boot (held_rounds limit old more.begun.rounds more.made more.last more.begun.went is)
-  held_drained limit old new replies (inr (inr more)) is = held_rounds limit old more.rounds limit new more.went is
+  held_drained limit old new replies (inr (inr (inl more))) is =
+      held_wrote limit more.made more.last more.moves new more.wrote (held_rounds limit old more.begun.rounds more.made more.last more.begun.went is)
+  held_drained limit old new replies (inr (inr (inr more))) is = held_rounds limit old more.rounds limit new more.went is
 
   -- ---- turns that change the device alone, and crashes
 
@@ -391,6 +408,9 @@ store_holds keeps key last options false old new (QueueDel client written sync) 
 store_holds keeps key last options true old new Write replies opened run covered unused holds =
     to_holds key last new (held_written key last old new None run.step run.turn (from_holds key last old opened holds))
 store_holds keeps key last options false old new Write replies opened rests covered unused holds = subst (Holds key last) (sym rests.same) holds
+store_holds keeps key last options true old new Flush replies opened run covered unused holds =
+    to_holds key last new (held_flushed key last old new run.draft None run.step run.turn (from_holds key last old opened holds))
+store_holds keeps key last options false old new Flush replies opened rests covered unused holds = subst (Holds key last) (sym rests.same) holds
 store_holds keeps key last options true old new ResumeStep replies opened run covered unused holds =
     to_holds key last new (held_resumed key last old new run.drafts None run.step run.turn (from_holds key last old opened holds))
 store_holds keeps key last options false old new ResumeStep replies opened rests covered unused holds = subst (Holds key last) (sym rests.same) holds
@@ -401,6 +421,14 @@ store_holds keeps key last options false old new (Scan from to) replies opened r
 store_holds keeps key last options true old new (Drain moves) replies opened run covered unused holds =
     to_holds key last new (held_drained key last moves old new replies run (from_holds key last old opened holds))
 store_holds keeps key last options false old new (Drain moves) replies opened rests covered unused holds = subst (Holds key last) (sym rests.same) holds
+store_holds keeps key last options true old new Error replies opened run covered unused holds = holds_seen key last old new run.turn.1 holds
+store_holds keeps key last options false old new Error replies opened rests covered unused holds = subst (Holds key last) (sym rests.same) holds
+store_holds keeps key last options true old new Levels replies opened run covered unused holds = holds_seen key last old new run.turn.1 holds
+store_holds keeps key last options false old new Levels replies opened rests covered unused holds = subst (Holds key last) (sym rests.same) holds
+store_holds keeps key last options true old new (Fail call fault_ skip times keep) replies opened run covered unused holds = holds_seen key last old new run.turn.1 holds
+store_holds keeps key last options false old new (Fail call fault_ skip times keep) replies opened run covered unused holds = holds_seen key last old new run.turn.1 holds
+store_holds keeps key last options true old new (Capacity bytes) replies opened run covered unused holds = holds_seen key last old new run.turn.1 holds
+store_holds keeps key last options false old new (Capacity bytes) replies opened run covered unused holds = holds_seen key last old new run.turn.1 holds
 store_holds keeps key last options true old new Files replies opened run covered unused holds = holds_seen key last old new run.turn.1 holds
 store_holds keeps key last options false old new Files replies opened run covered unused holds = holds_seen key last old new run.turn.1 holds
 store_holds keeps key last options true old new (Crash dirops keep garbage seed) replies opened run covered unused holds =

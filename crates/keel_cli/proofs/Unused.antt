@@ -7,7 +7,7 @@ use Rattle.keel_group.specs.Forming.{next_size}
 use Rattle.keel_group.specs.Queue.{Ticketed, tickets_of}
 use Rattle.keel_machine.specs.Admission.{outcome_kept, tickets_of_group}
 use Rattle.keel_machine.specs.States.{State, Group, Slot, Act, CloseLog, MakeLog, SyncDirectory, AddRecords, SyncLog, Writing, left_of, is_open}
-use Rattle.keel_machine.specs.Turns.{Event, Opening, Admitting, Writing as Makes, Resuming, TakingOutcome, Getting, Scanning, Listing, Crashing, Finishing, Turn, after}
+use Rattle.keel_machine.specs.Turns.{Event, Opening, Admitting, Writing as Makes, Resuming, Flushing, TakingOutcome, Getting, Scanning, Listing, TellingError, TellingLevels, Arranging, Crashing, Finishing, Turn, after}
 use Rattle.keel_machine.specs.Writing.{ready, started, started_or}
 use Rattle.keel_machine.specs.WritingAfter.{with_made, switched, goes_on, first_done, first_failed, group_done, group_failed, call_done, write_after}
 use Rattle.keel_machine.specs.declared.answers.Admit.{Admit}
@@ -16,6 +16,7 @@ use Rattle.keel_machine.specs.declared.answers.Outcome.TheVariants as outcome
 use Rattle.keel_machine.specs.declared.steps.WriteStep.{WriteStep}
 use Rattle.keel_machine.specs.declared.steps.WriteStep.TheVariants as step
 use Rattle.keel_recovery.specs.Machine.{MayCall}
+use Rattle.keel_cli.proofs.Beside.{beside}
 use Rattle.keel_cli.proofs.Flooring.{firm_resumed}
 use Rattle.keel_cli.proofs.Owning.{kept_skip, none_filter, Lacks, given_none}
 use Rattle.keel_cli.proofs.OwnSteps.{IsApart, apart_group, apart_group_failed}
@@ -178,12 +179,23 @@ answer_unused s (Resuming drafts held made) device may unused = λ opens ticket 
       owned = subst (λ (w : Writing). Elsewhere ticket w.waiting) (sym more.writing) before.owned;
       lacks = subst (λ (slot : Slot Group). Lacks ticket (tickets_of_group slot.running)) (sym more.group) before.lacks;
     }
+answer_unused s (Flushing draft held made) device may unused = λ opens ticket above.
+    let same = beside s draft made in
+    let before = unused may ticket (omega (arith, above, ap (λ (w : Writing). w.last_ticket) same.writing)) in
+    record {
+      none = ap (λ (w : Writing). outcome_kept ticket w.outcomes) same.writing ∙ before.none;
+      owned = subst (λ (w : Writing). Elsewhere ticket w.waiting) (sym same.writing) before.owned;
+      lacks = subst (λ (slot : Slot Group). Lacks ticket (tickets_of_group slot.running)) (sym same.group) before.lacks;
+    }
 answer_unused s (TakingOutcome taken out) device may unused = λ opens ticket above.
     let before = unused may ticket above in
     record { none = none_filter ticket (λ entry. not (entry.0 == taken)) s.writing.outcomes before.none; owned = before.owned; lacks = before.lacks }
 answer_unused s (Getting key got) device may unused = seen_unused s device unused
 answer_unused s (Scanning from to scanned) device may unused = seen_unused s device unused
 answer_unused s (Listing answer) device may unused = seen_unused s device unused
+answer_unused s (TellingError standing) device may unused = seen_unused s device unused
+answer_unused s (TellingLevels view) device may unused = seen_unused s device unused
+answer_unused s (Arranging rule answer) device may unused = seen_unused s device unused
 answer_unused s (Crashing pick (Some count)) device may unused = λ opens. cc
 answer_unused s (Crashing pick None) device may unused = λ opens. cc
 answer_unused s Finishing device may unused = absurd may

@@ -1,12 +1,14 @@
--- How a drain is carried out: rounds of a step of the boot and then one of the writer.
+-- How a drain is carried out: rounds of a step of the boot, then one of the writer, then one of the flush.
 use Rattle.std.specs.Prelude.{◌≡◌, ◌⊎◌, ℕ, ◌+◌, zero, suc, ◌<◌, ◌≤◌, List, [], ◌∷◌, Option, Some, None}
 use Rattle.keel_machine.specs.declared.steps.ResumeStep.{ResumeStep}
 use Rattle.keel_machine.specs.declared.steps.ResumeStep.TheVariants as boot_step
 use Rattle.keel_machine.specs.declared.steps.WriteStep.{WriteStep}
 use Rattle.keel_machine.specs.declared.steps.WriteStep.TheVariants as step
+use Rattle.keel_machine.specs.declared.steps.JobStep.{JobStep}
+use Rattle.keel_machine.specs.declared.steps.JobStep.TheVariants as job_step
 use Rattle.keel_machine.specs.States.{State}
-use Rattle.keel_machine.specs.Turns.{Turn, Resuming, Writing}
-use Rattle.keel_resume.specs.Drafts.{Draft}
+use Rattle.keel_machine.specs.Turns.{Turn, Resuming, Writing, Flushing}
+use Rattle.keel_draft.specs.Drafts.{Draft}
 use Rattle.keel_script.specs.declared.reply.Reply.{Reply}
 use Rattle.keel_script.specs.declared.reply.Reply.TheVariants.{Quiet, More}
 
@@ -24,6 +26,12 @@ moves_of_write (step.Spent counter) = Some 0
 moves_of_write step.OutOfMemory = None
 moves_of_write step = Some 1
 
+abbrev pub moves_of_flush : JobStep → Option ℕ
+moves_of_flush job_step.Idle = Some 0
+moves_of_flush (job_step.Spent counter) = Some 0
+moves_of_flush job_step.OutOfMemory = None
+moves_of_flush step = Some 1
+
 -- a step of the boot of so many moves
 pub record BootMoves (old : State) (moves : ℕ) (new : State) : Type 0 where
   pub step : ResumeStep
@@ -37,8 +45,15 @@ pub record WriteMoves (old : State) (moves : ℕ) (new : State) : Type 0 where
   pub turn : Turn old (Writing None step) new
   pub moves_are : moves_of_write step ≡ Some moves
 
--- A round behind so many moves: the boot makes a step, and where that leaves moves the writer makes one.
-pub record Round (limit made : ℕ) (old : State) (moves : ℕ) (new : State) : Type 0 where
+-- and of the flush
+pub record FlushMoves (old : State) (moves : ℕ) (new : State) : Type 0 where
+  pub step : JobStep
+  pub draft : Draft
+  pub turn : Turn old (Flushing draft None step) new
+  pub moves_are : moves_of_flush step ≡ Some moves
+
+-- A round behind so many moves begins: the boot makes a step, and where that leaves moves the writer makes one.
+pub record Wrote (limit made : ℕ) (old : State) (moves : ℕ) (new : State) : Type 0 where
   pub mid : State
   pub of_boot : ℕ
   pub of_write : ℕ
@@ -46,6 +61,16 @@ pub record Round (limit made : ℕ) (old : State) (moves : ℕ) (new : State) : 
   pub left : made + of_boot < limit
   pub write : WriteMoves mid of_write new
   pub moves_are : moves ≡ of_boot + of_write
+
+-- where that leaves moves too, the flush makes a step
+pub record Round (limit made : ℕ) (old : State) (moves : ℕ) (new : State) : Type 0 where
+  pub behind : State
+  pub before : ℕ
+  pub of_flush : ℕ
+  pub wrote : Wrote limit made old before behind
+  pub still_left : made + before < limit
+  pub flush : FlushMoves behind of_flush new
+  pub moves_are : moves ≡ before + of_flush
 
 -- So many rounds made so many moves, one at least in each. The last of them comes first.
 abbrev pub Rounds : ℕ → State → ℕ → ℕ → State → Type 0
@@ -59,7 +84,7 @@ pub record Begun (limit : ℕ) (old : State) (made : ℕ) (last : State) : Type 
   pub went : Rounds limit old rounds made last
   pub fewer : made < limit
 
--- behind fewer moves than were asked for, both rest in a whole round
+-- behind fewer moves than were asked for, all rest in a whole round
 pub record DrainsQuiet (limit : ℕ) (old : State) (replies : List Reply) (new : State) : Type 0 where
   pub made : ℕ
   pub last : State
@@ -77,6 +102,16 @@ pub record DrainsByBoot (limit : ℕ) (old : State) (replies : List Reply) (new 
   pub all : made + of_boot ≡ limit
   pub prints : replies ≡ More ∷ []
 
+-- or one of the writer did
+pub record DrainsByWriter (limit : ℕ) (old : State) (replies : List Reply) (new : State) : Type 0 where
+  pub made : ℕ
+  pub last : State
+  pub begun : Begun limit old made last
+  pub moves : ℕ
+  pub wrote : Wrote limit made last moves new
+  pub all : made + moves ≡ limit
+  pub prints : replies ≡ More ∷ []
+
 -- rounds made all moves that were asked for
 pub record DrainsMore (limit : ℕ) (old : State) (replies : List Reply) (new : State) : Type 0 where
   pub rounds : ℕ
@@ -84,7 +119,9 @@ pub record DrainsMore (limit : ℕ) (old : State) (replies : List Reply) (new : 
   pub prints : replies ≡ More ∷ []
 
 abbrev pub DrainRun : ℕ → State → List Reply → State → Type 0
-DrainRun limit old replies new = DrainsQuiet limit old replies new ⊎ (DrainsByBoot limit old replies new ⊎ DrainsMore limit old replies new)
+DrainRun limit old replies new =
+    DrainsQuiet limit old replies new
+    ⊎ (DrainsByBoot limit old replies new ⊎ (DrainsByWriter limit old replies new ⊎ DrainsMore limit old replies new))
 
 -- memory ended at a step of the boot
 pub record BootWants (limit : ℕ) (old new : State) : Type 0 where
@@ -105,5 +142,17 @@ pub record WriteWants (limit : ℕ) (old new : State) : Type 0 where
   pub left : made + of_boot < limit
   pub turn : Turn mid (Writing None step.OutOfMemory) new
 
+-- or at one of the flush
+pub record FlushWants (limit : ℕ) (old new : State) : Type 0 where
+  pub made : ℕ
+  pub last : State
+  pub begun : Begun limit old made last
+  pub moves : ℕ
+  pub behind : State
+  pub wrote : Wrote limit made last moves behind
+  pub still_left : made + moves < limit
+  pub draft : Draft
+  pub turn : Turn behind (Flushing draft None job_step.OutOfMemory) new
+
 abbrev pub DrainCut : ℕ → State → State → Type 0
-DrainCut limit old new = BootWants limit old new ⊎ WriteWants limit old new
+DrainCut limit old new = BootWants limit old new ⊎ (WriteWants limit old new ⊎ FlushWants limit old new)

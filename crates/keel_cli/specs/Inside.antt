@@ -1,22 +1,23 @@
--- What each write step and each resume step of a run has.
+-- What each write step, each resume step and each flush step of a run has.
 use Rattle.std.specs.Prelude.{ℕ, zero, suc, Option, None, Some, List, [], ◌∷◌}
 use Rattle.std.proofs.Common.{inl, inr}
 use Rattle.keel_base.specs.declared.op.Batch.{Batch}
 use Rattle.keel_base.specs.declared.options.Options.{Options}
+use Rattle.keel_machine.specs.declared.steps.JobStep.TheVariants as job_step
 use Rattle.keel_machine.specs.declared.steps.ResumeStep.TheVariants as boot_step
 use Rattle.keel_machine.specs.declared.steps.WriteStep.{WriteStep}
 use Rattle.keel_machine.specs.declared.steps.WriteStep.TheVariants as step
 use Rattle.keel_machine.specs.States.{State}
-use Rattle.keel_machine.specs.Turns.{Event, Resuming, Writing}
+use Rattle.keel_machine.specs.Turns.{Event, Resuming, Writing, Flushing}
 use Rattle.keel_machine.specs.States.{is_open}
 use Rattle.keel_script.specs.declared.command.Command.{Command}
-use Rattle.keel_script.specs.declared.command.Command.TheVariants.{SetOption, Put, Del, Write, ResumeStep, Drain, Tick}
+use Rattle.keel_script.specs.declared.command.Command.TheVariants.{SetOption, Put, Del, Write, Flush, ResumeStep, Drain, Tick}
 use Rattle.keel_script.specs.declared.reply.Reply.{Reply}
 use Rattle.keel_cli.specs.declared.lines.LineStop.{LineStop}
 use Rattle.keel_cli.specs.declared.lines.LineStop.TheVariants.{Refused, Unwritten, NoMemory}
 use Rattle.keel_cli.specs.declared.lines.StopPlace.{StopPlace}
 use Rattle.keel_cli.specs.Cuts.{StoreCutShort, CutShort}
-use Rattle.keel_cli.specs.Drains.{Round, Rounds, DrainRun, DrainCut}
+use Rattle.keel_cli.specs.Drains.{Wrote, Round, Rounds, DrainRun, DrainCut}
 use Rattle.keel_cli.specs.LineEnds.{Stops, LinesEnd}
 use Rattle.keel_cli.specs.Puts.{put_batch, del_batch, Waits, PutRun, PutCut}
 use Rattle.keel_cli.specs.Runs.{Calls, RestsOrCalls, rest_reply, Carries, CallsPartly, Run}
@@ -40,9 +41,13 @@ abbrev pub EachPutCut : (Has : OfStep) (old : State) (batch : Batch) (new : Stat
 EachPutCut Has old batch new (inl turn) = Unit {0}
 EachPutCut Has old batch new (inr cut) = EachWait Has cut.2.mid cut.0 (step.OutOfMemory ∷ cut.1) new cut.2.waits
 
+abbrev pub EachOfWrote : (Has : OfStep) (limit made : ℕ) (old : State) (moves : ℕ) (new : State) → Wrote limit made old moves new → Type 0
+EachOfWrote Has limit made old moves new wrote =
+    Has old (Resuming wrote.boot.drafts None wrote.boot.step) wrote.mid × Has wrote.mid (Writing None wrote.write.step) new
+
 abbrev pub EachOfRound : (Has : OfStep) (limit made : ℕ) (old : State) (moves : ℕ) (new : State) → Round limit made old moves new → Type 0
 EachOfRound Has limit made old moves new round =
-    Has old (Resuming round.boot.drafts None round.boot.step) round.mid × Has round.mid (Writing None round.write.step) new
+    EachOfWrote Has limit made old round.before round.behind round.wrote × Has round.behind (Flushing round.flush.draft None round.flush.step) new
 
 abbrev pub EachRound : (Has : OfStep) (limit : ℕ) (old : State) (rounds made : ℕ) (new : State) → Rounds limit old rounds made new → Type 0
 EachRound Has limit old zero made new same = Unit {0}
@@ -54,20 +59,26 @@ EachDrain Has limit old replies new (inl quiet) =
     EachRound Has limit old quiet.begun.rounds quiet.made quiet.last quiet.begun.went × EachOfRound Has limit quiet.made quiet.last 0 new quiet.round
 EachDrain Has limit old replies new (inr (inl more)) =
     EachRound Has limit old more.begun.rounds more.made more.last more.begun.went × Has more.last (Resuming more.boot.drafts None more.boot.step) new
-EachDrain Has limit old replies new (inr (inr more)) = EachRound Has limit old more.rounds limit new more.went
+EachDrain Has limit old replies new (inr (inr (inl more))) =
+    EachRound Has limit old more.begun.rounds more.made more.last more.begun.went × EachOfWrote Has limit more.made more.last more.moves new more.wrote
+EachDrain Has limit old replies new (inr (inr (inr more))) = EachRound Has limit old more.rounds limit new more.went
 
 abbrev pub EachDrainCut : (Has : OfStep) (limit : ℕ) (old new : State) → DrainCut limit old new → Type 0
 EachDrainCut Has limit old new (inl cut) =
     EachRound Has limit old cut.begun.rounds cut.made cut.last cut.begun.went × Has cut.last (Resuming cut.drafts None boot_step.OutOfMemory) new
-EachDrainCut Has limit old new (inr cut) =
+EachDrainCut Has limit old new (inr (inl cut)) =
     EachRound Has limit old cut.begun.rounds cut.made cut.last cut.begun.went
     × Has cut.last (Resuming cut.boot.drafts None cut.boot.step) cut.mid × Has cut.mid (Writing None step.OutOfMemory) new
+EachDrainCut Has limit old new (inr (inr cut)) =
+    EachRound Has limit old cut.begun.rounds cut.made cut.last cut.begun.went
+    × EachOfWrote Has limit cut.made cut.last cut.moves cut.behind cut.wrote × Has cut.behind (Flushing cut.draft None job_step.OutOfMemory) new
 
 -- each step that a command made
 abbrev pub EachCall : (Has : OfStep) (options : Options) (old : State) (command : Command) (replies : List Reply) (new : State) → Calls options old command replies new → Type 0
 EachCall Has options old (Put key value sync) replies new run = EachPut Has old (put_batch key value sync) replies new run
 EachCall Has options old (Del key sync) replies new run = EachPut Has old (del_batch key sync) replies new run
 EachCall Has options old Write replies new run = Has old (Writing None run.step) new
+EachCall Has options old Flush replies new run = Has old (Flushing run.draft None run.step) new
 EachCall Has options old ResumeStep replies new run = Has old (Resuming run.drafts None run.step) new
 EachCall Has options old (Drain moves) replies new run = EachDrain Has moves old replies new run
 EachCall Has options old command replies new run = Unit {0}
@@ -86,6 +97,7 @@ abbrev pub EachPartly : (Has : OfStep) (options : Options) (old : State) (comman
 EachPartly Has options old (Put key value sync) new cut = EachPutCut Has old (put_batch key value sync) new cut
 EachPartly Has options old (Del key sync) new cut = EachPutCut Has old (del_batch key sync) new cut
 EachPartly Has options old Write new turn = Has old (Writing None step.OutOfMemory) new
+EachPartly Has options old Flush new cut = Has old (Flushing cut.0 None job_step.OutOfMemory) new
 EachPartly Has options old ResumeStep new cut = Has old (Resuming cut.0 None boot_step.OutOfMemory) new
 EachPartly Has options old (Drain moves) new cut = EachDrainCut Has moves old new cut
 EachPartly Has options old command new cut = Unit {0}

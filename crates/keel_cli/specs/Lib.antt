@@ -3,6 +3,9 @@ pub mod Grammar
 pub mod Puts
 pub mod Writes
 pub mod Boots
+pub mod Flushes
+pub mod Telling
+pub mod Arranging
 pub mod Drains
 pub mod Runs
 pub mod Replies

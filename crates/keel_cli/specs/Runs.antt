@@ -7,6 +7,7 @@ use Rattle.keel_base.specs.Options.{range_of, IsWithin, SetsOne}
 use Rattle.keel_disk.specs.declared.error.DiskError.{DiskError}
 use Rattle.keel_disk.specs.declared.error.DiskError.TheVariants as disk
 use Rattle.keel_disk.specs.declared.rule.Pick.{Pick}
+use Rattle.keel_disk.specs.declared.rule.Rule.TheVariants as rule
 use Rattle.keel_base.specs.declared.options.Options.{Options}
 use Rattle.keel_open.specs.declared.refusal.OpenRefusal.{OpenRefusal}
 use Rattle.keel_open.specs.declared.refusal.OpenRefusal.TheVariants as refusal
@@ -21,12 +22,15 @@ use Rattle.keel_machine.specs.States.{State}
 use Rattle.keel_machine.specs.Turns.{Turn, Opening, Getting, Scanning, Listing, Crashing}
 use Rattle.keel_machine.specs.States.{is_open}
 use Rattle.keel_script.specs.declared.command.Command.{Command}
-use Rattle.keel_script.specs.declared.command.Command.TheVariants.{SetOption, Open, Put, Del, QueuePut, QueueDel, Write, ResumeStep, Drain, Tick, Get, Scan, Files, Crash}
+use Rattle.keel_script.specs.declared.command.Command.TheVariants.{SetOption, Open, Put, Del, QueuePut, QueueDel, Write, Flush, ResumeStep, Drain, Tick, Get, Scan, Error, Files, Levels, Fail, Capacity, Crash}
 use Rattle.keel_script.specs.declared.reply.Reply.{Reply}
 use Rattle.keel_script.specs.declared.reply.Reply.TheVariants as reply
+use Rattle.keel_cli.specs.Arranging.{ArrangeRun, ArrangeCut}
 use Rattle.keel_cli.specs.Boots.{BootRun, BootCut}
 use Rattle.keel_cli.specs.Drains.{DrainRun, DrainCut}
+use Rattle.keel_cli.specs.Flushes.{FlushRun, FlushCut}
 use Rattle.keel_cli.specs.Puts.{put_batch, del_batch, PutRun, PutCut, QueueRun, QueueCut}
+use Rattle.keel_cli.specs.Telling.{ErrorRun, LevelsRun}
 use Rattle.keel_cli.specs.Writes.{WriteRun, WriteCut}
 use Rattle.keel_cli.specs.Sessions.{Session, with_store}
 
@@ -127,6 +131,8 @@ rest_reply true (QueueDel client key sync) = None
 rest_reply false (QueueDel client key sync) = Some reply.NotOpen
 rest_reply true Write = None
 rest_reply false Write = Some reply.NotOpen
+rest_reply true Flush = None
+rest_reply false Flush = Some reply.NotOpen
 rest_reply true ResumeStep = None
 rest_reply false ResumeStep = Some reply.NotOpen
 rest_reply true (Scan from to) = None
@@ -135,7 +141,13 @@ rest_reply true (Get key) = None
 rest_reply false (Get key) = Some reply.NotOpen
 rest_reply true (Drain moves) = None
 rest_reply false (Drain moves) = Some reply.NotOpen
+rest_reply true Error = None
+rest_reply false Error = Some reply.NotOpen
+rest_reply true Levels = None
+rest_reply false Levels = Some reply.NotOpen
 rest_reply is_one_open Files = None
+rest_reply is_one_open (Fail call fault skip times keep) = None
+rest_reply is_one_open (Capacity bytes) = None
 rest_reply is_one_open (Crash dirops keep garbage seed) = None
 rest_reply is_one_open command = Some reply.NotBuilt
 
@@ -146,10 +158,13 @@ needs_store (Del key sync) = true
 needs_store (QueuePut client key value sync) = true
 needs_store (QueueDel client key sync) = true
 needs_store Write = true
+needs_store Flush = true
 needs_store ResumeStep = true
 needs_store (Get key) = true
 needs_store (Scan from to) = true
 needs_store (Drain moves) = true
+needs_store Error = true
+needs_store Levels = true
 needs_store command = false
 
 -- The calls that a command may make, the replies that then answer it, and the state that it leaves. Options are those of an
@@ -161,11 +176,16 @@ Calls options old (Del key sync) replies new = PutRun old (del_batch key sync) r
 Calls options old (QueuePut client key value sync) replies new = QueueRun old (put_batch key value sync) replies new
 Calls options old (QueueDel client key sync) replies new = QueueRun old (del_batch key sync) replies new
 Calls options old Write replies new = WriteRun old replies new
+Calls options old Flush replies new = FlushRun old replies new
 Calls options old ResumeStep replies new = BootRun old replies new
 Calls options old (Get key) replies new = GetRun old key replies new
 Calls options old (Scan from to) replies new = ScanRun old from to replies new
 Calls options old (Drain moves) replies new = DrainRun moves old replies new
+Calls options old Error replies new = ErrorRun old replies new
+Calls options old Levels replies new = LevelsRun old replies new
 Calls options old Files replies new = ListRun old replies new
+Calls options old (Fail call fault skip times keep) replies new = ArrangeRun old (rule.Fail call fault skip times keep) replies new
+Calls options old (Capacity bytes) replies new = ArrangeRun old (rule.Capacity bytes) replies new
 Calls options old (Crash dirops keep garbage seed) replies new =
     CrashRun old.device.simulated old (record { dirops = dirops; keep = keep; garbage = garbage; seed = seed }) replies new
 Calls options old command replies new = ⊥
@@ -232,11 +252,14 @@ CallsPartly options old (Del key sync) new = PutCut old (del_batch key sync) new
 CallsPartly options old (QueuePut client key value sync) new = QueueCut old (put_batch key value sync) new
 CallsPartly options old (QueueDel client key sync) new = QueueCut old (del_batch key sync) new
 CallsPartly options old Write new = WriteCut old new
+CallsPartly options old Flush new = FlushCut old new
 CallsPartly options old ResumeStep new = BootCut old new
 CallsPartly options old (Get key) new = Turn old (Getting key got.OutOfMemory) new
 CallsPartly options old (Scan from to) new = Turn old (Scanning from to scanned.OutOfMemory) new
 CallsPartly options old (Drain moves) new = DrainCut moves old new
 CallsPartly options old Files new = Turn old (Listing (Err disk.OutOfMemory)) new
+CallsPartly options old (Fail call fault skip times keep) new = ArrangeCut old (rule.Fail call fault skip times keep) new
+CallsPartly options old (Capacity bytes) new = ArrangeCut old (rule.Capacity bytes) new
 CallsPartly options old command new = ⊥
 
 -- where it makes calls

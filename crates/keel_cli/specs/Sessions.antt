@@ -6,6 +6,7 @@ use Rattle.keel_base.specs.Options.{AreDefaults, standard}
 use Rattle.keel_disk.specs.Told.{Told}
 use Rattle.keel_disk.specs.Seen.{Seen}
 use Rattle.keel_machine.specs.States.{State, Footing, Known, Unknown, Shut, Nothing, new_story, no_batches}
+use Rattle.keel_manifest.specs.State.{named_at_opening}
 use Rattle.keel_recovery.specs.Machine.{RestsIn}
 
 -- its store as the machine has it, the options for the next opening, and the tick
@@ -29,8 +30,8 @@ unopened footing device = record {
   levels = [];
   writing = record { waiting = []; outcomes = []; last_ticket = 0 };
   failing = record { failures = [] };
-  jobs = record { write = record { number = 0; running = None }; resume = record { number = 0; running = None } };
-  numbers = record { next_file = 1; manifest = None; in_tables = 0 };
+  jobs = record { write = record { number = 0; running = None }; flush = record { number = 0; running = None }; resume = record { number = 0; running = None } };
+  numbers = record { next_file = 1; manifest = named_at_opening None 0; in_tables = 0 };
 }
 
 -- a run begins so: no store, each option with its default, and tick 0

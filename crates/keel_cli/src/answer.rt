@@ -1,9 +1,11 @@
 // What a command is answered, and its text.
 ghost use Rattle.std.specs.Prelude.{◌≡◌, ◌++◌, length, IfOk, OnOk};
 ghost use Rattle.std.specs.List.{flat_map};
-ghost use Rattle.keel_cli.specs.Replies.{count_line, file_line, full_line, replies_of, row_line, rows_line, text};
+ghost use Rattle.keel_cli.specs.Replies.{count_line, file_line, full_line, level_line, memory_line, replies_of, row_line, rows_line, text};
+ghost use Rattle.keel_cli.specs.Telling.{level_replies};
 
 use keel_base::{Bytes, Entry, Listing, OutOfMemory, Row, Rows};
+use keel_machine::{LevelView, LevelsView};
 use keel_script::{Reply, print_reply};
 use std::alloc::Global;
 
@@ -15,6 +17,8 @@ pub enum Answer {
     Files(Listing),
     /// A line for each row, and their number.
     Rows(Rows),
+    /// A line for each level, and one for the memory.
+    Levels(LevelsView),
 }
 
 // Adds the line of a reply.
@@ -87,6 +91,48 @@ fn scan_text(alloc: Global, rows: &[Row]) -> Result<Bytes, OutOfMemory>
     Ok(lines)
 }
 
+// Adds the line of a level.
+fn add_level(
+    alloc: Global,
+    lines: &mut Bytes,
+    level: u8,
+    view: LevelView,
+) -> Result<(), OutOfMemory>
+    ensures { OnOk result (lines.new ≡ lines.old ++ level_line level view) }
+{
+    let reply = Reply::Level {
+        level,
+        files: view.files,
+        bytes: view.bytes,
+    };
+    add_line(alloc, lines, &reply)
+}
+
+// Adds the line of the memory.
+fn add_memory(alloc: Global, lines: &mut Bytes, view: LevelsView) -> Result<(), OutOfMemory>
+    ensures { OnOk result (lines.new ≡ lines.old ++ memory_line view) }
+{
+    let reply = Reply::Memory {
+        active: view.active,
+        immutables: view.immutables,
+        waiting: view.waiting,
+    };
+    add_line(alloc, lines, &reply)
+}
+
+// The lines of the levels, and of the memory.
+fn levels_text(alloc: Global, view: LevelsView) -> Result<Bytes, OutOfMemory>
+    ensures { IfOk result (λ lines. lines ≡ text (level_replies view)) }
+{
+    let mut lines = Bytes::new(alloc);
+    add_level(alloc, &mut lines, 0, view.level0)?;
+    add_level(alloc, &mut lines, 1, view.level1)?;
+    add_level(alloc, &mut lines, 2, view.level2)?;
+    add_level(alloc, &mut lines, 3, view.level3)?;
+    add_memory(alloc, &mut lines, view)?;
+    Ok(lines)
+}
+
 /// The text of an answer: each reply's line with its newline.
 pub fn text_of(alloc: Global, answer: &Answer) -> Result<Bytes, OutOfMemory>
     ensures { IfOk result (λ lines. lines ≡ text (replies_of answer.now)) }
@@ -99,5 +145,6 @@ pub fn text_of(alloc: Global, answer: &Answer) -> Result<Bytes, OutOfMemory>
         }
         Answer::Files(listing) => list_text(alloc, listing.as_slice()),
         Answer::Rows(rows) => scan_text(alloc, rows.as_slice()),
+        Answer::Levels(view) => levels_text(alloc, *view),
     }
 }

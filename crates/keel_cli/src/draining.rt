@@ -1,8 +1,9 @@
-// Going round the actors until all rest: the boot and the writer.
+// Going round the actors until all rest: the boot, the writer and the flush.
 ghost use Rattle.std.specs.Prelude.{◌≡◌, ◌≤◌, Some, IfOk, IsErr, OnErr, [], ◌∷◌};
 ghost use Rattle.keel_machine.specs.States.{State};
 ghost use Rattle.keel_core.specs.Views.{StandsFor};
-ghost use Rattle.keel_cli.specs.Drains.{DrainRun, DrainCut, moves_of_boot, moves_of_write};
+ghost use Rattle.keel_cli.specs.Drains.{DrainRun, DrainCut, moves_of_boot, moves_of_flush, moves_of_write};
+ghost use Rattle.keel_machine.specs.declared.steps.JobStep.TheVariants as job_steps;
 ghost use Rattle.keel_machine.specs.declared.steps.ResumeStep.TheVariants as resume_steps;
 ghost use Rattle.keel_machine.specs.declared.steps.WriteStep.TheVariants as steps;
 ghost use Rattle.keel_cli.specs.Stores.{CoreLeads, StandsForSome};
@@ -10,7 +11,7 @@ ghost use Rattle.keel_cli.specs.Stores.{CoreLeads, StandsForSome};
 use keel_base::OutOfMemory;
 use keel_core::Core;
 use keel_disk::Device;
-use keel_machine::{ResumeStep, WriteStep};
+use keel_machine::{JobStep, ResumeStep, WriteStep};
 use keel_script::Reply;
 use std::alloc::Global;
 
@@ -47,6 +48,22 @@ fn moves_of_write(step: WriteStep) -> Result<u64, OutOfMemory>
     }
 }
 
+// The same of a step of the flush.
+fn moves_of_flush(step: JobStep) -> Result<u64, OutOfMemory>
+    ensures moves { IfOk result (λ moves. moves_of_flush step ≡ Some moves) }
+    ensures few { IfOk result (λ moves. moves ≤ 1) }
+    ensures cut { IsErr result → step ≡ job_steps.OutOfMemory }
+{
+    match step {
+        JobStep::Idle | JobStep::Spent(_) => Ok(0),
+        JobStep::OutOfMemory => Err(OutOfMemory),
+        JobStep::Moved { .. }
+        | JobStep::Done { .. }
+        | JobStep::Failed(_)
+        | JobStep::Cancelled { .. } => Ok(1),
+    }
+}
+
 /// Makes so many moves at most, and says whether the actors rest or there may be more to do.
 pub(crate) fn drain<V: Device>(
     alloc: Global,
@@ -67,10 +84,15 @@ pub(crate) fn drain<V: Device>(
         }
         let step = core.write_step(alloc, None);
         let written = moves_of_write(step)?;
-        if booted + written == 0 {
+        if made + booted + written == moves {
+            return Ok(Reply::More);
+        }
+        let step = core.flush_step(alloc, None);
+        let flushed = moves_of_flush(step)?;
+        if booted + written + flushed == 0 {
             return Ok(Reply::Quiet);
         }
-        made += booted + written;
+        made += booted + written + flushed;
     }
     Ok(Reply::More)
 }

@@ -3,6 +3,7 @@ ghost use Rattle.std.specs.Prelude.{◌≡◌, [], ◌∷◌, IfSome, IfNone};
 ghost use Rattle.keel_base.specs.Options.{AreDefaults};
 ghost use Rattle.keel_script.specs.declared.command.Command.TheVariants as command;
 ghost use Rattle.keel_recovery.specs.Machine.{IsCovered};
+ghost use Rattle.keel_script.specs.Grammar.{IsAllowed};
 ghost use Rattle.keel_cli.specs.Driving.{DriverLeads, Drives, StandsAt};
 ghost use Rattle.keel_cli.specs.Runs.{Carries, IsOnStore};
 ghost use Rattle.keel_cli.specs.Sessions.{Session};
@@ -83,6 +84,7 @@ impl<V: Device> Driver<V> {
 
     /// Carries out a command.
     pub fn answer(&mut self, alloc: Global, command: &Command) -> Result<Answer, OutOfMemory>
+        requires { IsAllowed command.now }
         ensures { (session : Session) → StandsAt self.old session → IsCovered session.store
             → Drives session command.now self.new result }
     {

@@ -2,6 +2,7 @@
 ghost use Rattle.std.specs.Prelude.{◌≡◌, ◌≢◌, ◌<◌, ◌-◌, ◌^◌, ◌≤◌, length};
 ghost use Rattle.keel_base.specs.Counts.{Rose};
 ghost use Rattle.keel_recovery.specs.Machine.{IsCovered};
+ghost use Rattle.keel_script.specs.Grammar.{IsAllowed};
 ghost use Rattle.keel_cli.specs.Driving.{LineLeads, StandsAt};
 ghost use Rattle.keel_cli.specs.Ends.{Ends, end_at, end_behind, outside};
 ghost use Rattle.keel_cli.specs.LineEnds.{CommandEnds, LineEnds, IsUnwritten};
@@ -50,6 +51,7 @@ fn run_command<K: Sink, V: Device>(
     driver: &mut Driver<V>,
     out: &mut K,
 ) -> Result<(), LineStop>
+    requires { IsAllowed command.now }
     ensures end { (now : Session) → StandsAt driver.old now → IsCovered now.store
         → LineLeads result driver.new (λ new.
         CommandEnds result now (K.held out.old) command.now new (K.held out.new)) }

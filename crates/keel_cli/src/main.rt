@@ -6,14 +6,15 @@
 //! the answer of its calls, and the output grew by just these lines. With 0 they are all lines of the input; with each
 //! other status the contract says which they are. The device is handed back as the machine then has it.
 //!
-//! A store that was opened boots before it takes writes: `drain` goes round the boot and the writer, `resume-step` makes
-//! one step of the boot. Until it has cleared, writes are answered `booting`, and reads give what the opening found.
+//! A store that was opened boots before it takes writes: `drain` goes round the boot, the writer and the flush,
+//! `resume-step` makes one step of the boot. Until it has cleared, writes are answered `booting`, and reads give what the
+//! opening found.
 //!
 //! Where the device was at rest as it was handed in, its directory read as a sound store or was refused, and no crash of
 //! the run left a forged image, the device handed back stands for the story of the run: behind any crash, an opening
 //! reads CURRENT, manifest, tables and logs as the map after the first of the logged writes, with every acknowledged
 //! synced one. In the run itself each opening behind a crash finds just that, and so does each image inside the call of a
-//! write step or a resume step.
+//! write step, a resume step or a flush step.
 //!
 //! The lines are `keel_lines`'s, their grammar and the replies `keel_script`'s. A command that isn't built yet is
 //! answered `not-built`. It stands on `keel_core`, the store, and runs it over `keel_simdisk`, a device in memory, or
@@ -25,13 +26,17 @@ ghost use Rattle.keel_simdisk.specs.Calls.{seen_of};
 ghost use Rattle.keel_cli.specs.Sessions.{MayBegin};
 
 mod answer;
+mod arranging;
 mod booting;
 mod draining;
 mod driver;
+mod failing;
+mod flushing;
 mod lines;
 mod putting;
 mod stepping;
 mod store;
+mod telling;
 mod top;
 mod words;
 

@@ -3,30 +3,33 @@ ghost use Rattle.std.specs.Prelude.{◌≡◌, [], ◌∷◌, false, true, IfOk,
 ghost use Rattle.keel_disk.specs.declared.error.DiskError.TheVariants as disk;
 ghost use Rattle.keel_machine.specs.States.{State};
 ghost use Rattle.keel_core.specs.Views.{StandsFor};
-ghost use Rattle.keel_open.specs.declared.refusal.OpenRefusal.TheVariants as refused;
-ghost use Rattle.keel_table.specs.declared.fault.TableFault.TheVariants as faults;
+ghost use Rattle.keel_disk.specs.Rule.{IsAllowed};
 ghost use Rattle.keel_machine.specs.Reads.{IsBorne};
+ghost use Rattle.keel_machine.specs.Turns.{Arranging, Turn};
+ghost use Rattle.keel_script.specs.Grammar as grammar;
 ghost use Rattle.keel_recovery.specs.Machine.{IsCovered};
 ghost use Rattle.keel_script.specs.declared.command.Command.TheVariants as command;
 ghost use Rattle.keel_cli.specs.declared.answer.Answer.TheVariants as answers;
 ghost use Rattle.keel_cli.specs.Cuts.{CarriedOut};
 ghost use Rattle.keel_cli.specs.Replies.{replies_of};
-ghost use Rattle.keel_cli.specs.Runs.{fault_replies, listing_replies, needs_store, opening_replies, rest_reply};
-ghost use Rattle.keel_cli.specs.Stores.{IsTidy, Shows, Stands, StandsForSome, is_one_open, view_of};
+ghost use Rattle.keel_cli.specs.Runs.{listing_replies, needs_store, rest_reply};
+ghost use Rattle.keel_cli.specs.Stores.{IsTidy, Leads, Shows, Stands, StandsForSome, is_one_open, view_of};
 ghost use Rattle.keel_cli.specs.Stores as view;
 
 use crate::Answer;
+use crate::arranging::{arranged_reply, rule_of};
 use crate::booting::resume;
 use crate::draining::drain;
+use crate::failing::{fault_reply, refusal_reply};
+use crate::flushing::flush;
 use crate::putting::{key_batch, pair_batch, put_batch, queue_batch};
 use crate::stepping::write;
+use crate::telling::error;
 use keel_base::{Bytes, Listing, Options, OutOfMemory};
 use keel_core::{Core, Refused};
-use keel_disk::{Device, DiskError, Pick};
+use keel_disk::{Device, DiskError, Pick, Rule};
 use keel_machine::{Got, Scanned};
-use keel_open::OpenRefusal;
 use keel_script::{Command, Reply};
-use keel_table::TableFault;
 use std::alloc::Global;
 use std::marker::Model;
 use std::mem;
@@ -72,46 +75,6 @@ fn one(reply: Result<Reply, OutOfMemory>) -> Result<Answer, OutOfMemory>
     }
 }
 
-// What an opening that was refused is answered.
-fn refusal_reply(refusal: OpenRefusal) -> Result<Reply, OutOfMemory>
-    ensures printed { IfOk result (λ reply. opening_replies (Err refusal) ≡ Some (reply ∷ [])) }
-    ensures cut { IsErr result → refusal ≡ refused.OutOfMemory }
-{
-    match refusal {
-        OpenRefusal::Device(fault) => Ok(Reply::RefusedDevice(fault)),
-        OpenRefusal::NoCurrent { file } => Ok(Reply::RefusedNoCurrent(file)),
-        OpenRefusal::BadCurrent { bytes } => Ok(Reply::RefusedBadCurrent(bytes)),
-        OpenRefusal::DamagedManifest { at } => Ok(Reply::RefusedDamagedManifest { at }),
-        OpenRefusal::MissingTable { number } => Ok(Reply::RefusedMissingTable { number }),
-        OpenRefusal::BadTable { number, .. } => Ok(Reply::RefusedBadTable { number }),
-        OpenRefusal::BadLog { log, at } => Ok(Reply::RefusedBadLog { number: log, at }),
-        OpenRefusal::LogGap {
-            log,
-            expected,
-            found,
-        } => Ok(Reply::RefusedLogGap {
-            number: log,
-            expected,
-            found,
-        }),
-        OpenRefusal::OutOfMemory => Err(OutOfMemory),
-    }
-}
-
-// What a read is answered for which the table of that number wasn't read.
-fn fault_reply(number: u64, fault: TableFault) -> Result<Reply, OutOfMemory>
-    ensures printed { IfOk result (λ reply. fault_replies number fault ≡ Some (reply ∷ [])) }
-    ensures cut { IsErr result → fault ≡ faults.OutOfMemory }
-{
-    match fault {
-        TableFault::Device(cause) => Ok(Reply::ReadFault(cause)),
-        TableFault::Absent => Ok(Reply::AbsentTable { number }),
-        TableFault::BadCheck { stored, computed } => Ok(Reply::BadCheck { stored, computed }),
-        TableFault::BadShape { at } => Ok(Reply::BadShape { at }),
-        TableFault::OutOfMemory => Err(OutOfMemory),
-    }
-}
-
 // What a listing is answered.
 fn list_answer(listed: Result<Listing, DiskError>) -> Result<Answer, OutOfMemory>
     ensures ok { IfOk result (λ answer. listing_replies listed ≡ Some (replies_of answer)) }
@@ -135,11 +98,15 @@ fn rest_reply(is_open: bool, command: &Command) -> Option<Reply>
         | Command::QueuePut { .. }
         | Command::QueueDel { .. }
         | Command::Write
+        | Command::Flush
         | Command::ResumeStep
         | Command::Get { .. }
         | Command::Scan { .. }
+        | Command::Error
+        | Command::Levels
         | Command::Drain { .. } => { if is_open { None } else { Some(Reply::NotOpen) } }
-        Command::Files | Command::Crash { .. } => None,
+        Command::Files | Command::Fail { .. } | Command::Capacity { .. } | Command::Crash { .. } =>
+            None,
         _ => Some(Reply::NotBuilt),
     }
 }
@@ -220,10 +187,13 @@ fn answer_on<V: Device>(
             one(queue_batch(core, del))
         }
         Command::Write => one(write(alloc, core)),
+        Command::Flush => one(flush(alloc, core)),
         Command::ResumeStep => one(resume(alloc, core)),
         Command::Drain { moves } => one(drain(alloc, core, *moves)),
         Command::Get { key } => get(alloc, options, core, key),
         Command::Scan { from, to } => scan(alloc, options, core, from, to),
+        Command::Error => Ok(Answer::One(error(core))),
+        Command::Levels => Ok(Answer::Levels(core.levels())),
         _ => unreachable!(),
     }
 }
@@ -313,6 +283,18 @@ impl<V: Device> Store<V> {
         }
     }
 
+    // Hands a rule to the device, whether or not a store is open on it.
+    fn arrange(&mut self, alloc: Global, rule: Rule) -> Result<bool, OutOfMemory>
+        requires { IsAllowed rule }
+        ensures { (s : State) → Stands self.old s → Leads self.new (Turn s (Arranging rule result)) }
+    {
+        match &mut self.held {
+            Held::Closed(device) => device.arrange(alloc, rule),
+            Held::Open(core) => core.arrange(alloc, rule),
+            Held::Lent => unreachable!(),
+        }
+    }
+
     // Crashes a simulated device, which leaves the store closed.
     fn crash(&mut self, alloc: Global, options: &Options, pick: Pick) -> Result<Answer, OutOfMemory>
         ensures { (s : State) → Stands self.old s → IsCovered s
@@ -337,11 +319,15 @@ impl<V: Device> Store<V> {
         options: &Options,
         command: &Command,
     ) -> Result<Answer, OutOfMemory>
+        requires { grammar.IsAllowed command.now }
         ensures { (s : State) → Stands self.old s → IsCovered s
             → CarriedOut options.now s command.now self.new result }
     {
         if let Some(reply) = rest_reply(self.is_open(), command) {
             return Ok(Answer::One(reply));
+        }
+        if let Some(rule) = rule_of(command) {
+            return one(arranged_reply(rule, self.arrange(alloc, rule)));
         }
         match command {
             Command::Open => self.open(alloc, options),

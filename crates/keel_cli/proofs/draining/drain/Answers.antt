@@ -1,10 +1,12 @@
 use Rattle.std.proofs.Common.{◌+◌, ◌<◌, ◌≤◌, None, refl, subst, arith}
 use Rattle.keel_machine.specs.Turns.{Writing}
+use Rattle.keel_machine.specs.declared.steps.JobStep.{JobStep}
 use Rattle.keel_machine.specs.declared.steps.ResumeStep.{ResumeStep}
 use Rattle.keel_machine.specs.declared.steps.WriteStep.{WriteStep}
+use Rattle.keel_core.specs.Flushes.{FlushesTurn}
 use Rattle.keel_core.specs.Resuming.{ResumesTurn}
 use Rattle.keel_core.specs.Views.{TakesTurn}
-use Rattle.keel_cli.proofs.Moving.{booted, boot_told, boot_wants, more_by_boot, more_run, none_gone, quiet_run, round_gone, round_of, step_told, write_wants}
+use Rattle.keel_cli.proofs.Moving.{booted, boot_told, boot_wants, flush_told, flush_wants, more_by_boot, more_by_writer, more_run, none_gone, quiet_run, round_gone, round_of, step_told, write_wants, written}
 use Rattle.keel_cli.proofs.OnErr.{on_err_always}
 use Rattle.keel_cli.proofs.draining.drain.Goals as goal
 
@@ -50,36 +52,90 @@ returns-in_err-written-clause-told g c =
     let made = c.write_step-step in
     step_told step.new.self made.new.self made.result made.ensures.turn (boot_told c.rounds.core step.new.self step.result step.ensures.turn c.rounds.invariant.told)
 
+pub returns-then-made-booted-2-clause-carried : goal.returns-then-made-booted-2-clause-carried
+returns-then-made-booted-2-clause-carried g c =
+    let step = c.resume_step-step in
+    let made = c.write_step-step in
+    let left : c.rounds.made + c.in_ok-booted.booted < c.args.moves = omega (arith, c.rounds-test.true, c.in_ok-booted.ensures.few, c.if-made-booted.false) in
+    let half =
+    written c.args.moves c.args.core.now step.new.self made.new.self c.rounds.made c.in_ok-booted.booted c.in_ok-written.written made.result
+    (booted c.args.moves c.args.core.now c.rounds.core step.new.self c.rounds.made c.in_ok-booted.booted step.result c.rounds.invariant.goes c.rounds-test.true step.ensures.turn c.in_ok-booted.ensures.moves)
+    left made.ensures.turn c.in_ok-written.ensures.moves in
+    more_by_writer c.args.moves c.args.core.now made.new.self c.rounds.made (c.in_ok-booted.booted + c.in_ok-written.written) half (omega (arith, c.if-made-booted-2.true))
+
+pub returns-then-made-booted-2-clause-told : goal.returns-then-made-booted-2-clause-told
+returns-then-made-booted-2-clause-told g c =
+    let step = c.resume_step-step in
+    let made = c.write_step-step in
+    step_told step.new.self made.new.self made.result made.ensures.turn (boot_told c.rounds.core step.new.self step.result step.ensures.turn c.rounds.invariant.told)
+
+pub returns-in_err-flushed-clause-cut : goal.returns-in_err-flushed-clause-cut
+returns-in_err-flushed-clause-cut g c s stands =
+    let step = c.resume_step-step in
+    let made = c.write_step-step in
+    let flushed = c.flush_step-step in
+    let left : c.rounds.made + c.in_ok-booted.booted < c.args.moves = omega (arith, c.rounds-test.true, c.in_ok-booted.ensures.few, c.if-made-booted.false) in
+    let half =
+    written c.args.moves c.args.core.now step.new.self made.new.self c.rounds.made c.in_ok-booted.booted c.in_ok-written.written made.result
+    (booted c.args.moves c.args.core.now c.rounds.core step.new.self c.rounds.made c.in_ok-booted.booted step.result c.rounds.invariant.goes c.rounds-test.true step.ensures.turn c.in_ok-booted.ensures.moves)
+    left made.ensures.turn c.in_ok-written.ensures.moves in
+    let still : c.rounds.made + (c.in_ok-booted.booted + c.in_ok-written.written) < c.args.moves = omega (arith, left, c.in_ok-written.ensures.few, c.if-made-booted-2.false) in
+    let want = subst (λ (w : JobStep). FlushesTurn made.new.self None w flushed.new.self) (c.in_err-flushed.ensures.cut refl) flushed.ensures.turn in
+    on_err_always c.from_residual-in_err-flushed.result
+    (flush_wants c.args.moves c.args.core.now made.new.self flushed.new.self c.rounds.made (c.in_ok-booted.booted + c.in_ok-written.written) half still want s stands)
+
+pub returns-in_err-flushed-clause-told : goal.returns-in_err-flushed-clause-told
+returns-in_err-flushed-clause-told g c =
+    let step = c.resume_step-step in
+    let made = c.write_step-step in
+    let flushed = c.flush_step-step in
+    flush_told made.new.self flushed.new.self flushed.result flushed.ensures.turn
+    (step_told step.new.self made.new.self made.result made.ensures.turn (boot_told c.rounds.core step.new.self step.result step.ensures.turn c.rounds.invariant.told))
+
 pub returns-then-booted-written-eq0-clause-carried : goal.returns-then-booted-written-eq0-clause-carried
 returns-then-booted-written-eq0-clause-carried g c =
     let step = c.resume_step-step in
     let made = c.write_step-step in
+    let flushed = c.flush_step-step in
     let left : c.rounds.made + c.in_ok-booted.booted < c.args.moves = omega (arith, c.rounds-test.true, c.in_ok-booted.ensures.few, c.if-made-booted.false) in
-    quiet_run c.args.moves c.args.core.now made.new.self c.rounds.made (c.in_ok-booted.booted + c.in_ok-written.written) c.if-booted-written-eq0.true
-    (round_of c.args.moves c.args.core.now step.new.self made.new.self c.rounds.made c.in_ok-booted.booted c.in_ok-written.written made.result
+    let half =
+    written c.args.moves c.args.core.now step.new.self made.new.self c.rounds.made c.in_ok-booted.booted c.in_ok-written.written made.result
     (booted c.args.moves c.args.core.now c.rounds.core step.new.self c.rounds.made c.in_ok-booted.booted step.result c.rounds.invariant.goes c.rounds-test.true step.ensures.turn c.in_ok-booted.ensures.moves)
-    left made.ensures.turn c.in_ok-written.ensures.moves)
+    left made.ensures.turn c.in_ok-written.ensures.moves in
+    let still : c.rounds.made + (c.in_ok-booted.booted + c.in_ok-written.written) < c.args.moves = omega (arith, left, c.in_ok-written.ensures.few, c.if-made-booted-2.false) in
+    quiet_run c.args.moves c.args.core.now flushed.new.self c.rounds.made (c.in_ok-booted.booted + c.in_ok-written.written + c.in_ok-flushed.flushed) c.if-booted-written-eq0.true
+    (round_of c.args.moves c.args.core.now made.new.self flushed.new.self c.rounds.made (c.in_ok-booted.booted + c.in_ok-written.written) c.in_ok-flushed.flushed flushed.result half still
+    flushed.ensures.turn c.in_ok-flushed.ensures.moves)
 
 pub returns-then-booted-written-eq0-clause-told : goal.returns-then-booted-written-eq0-clause-told
 returns-then-booted-written-eq0-clause-told g c =
     let step = c.resume_step-step in
     let made = c.write_step-step in
-    step_told step.new.self made.new.self made.result made.ensures.turn (boot_told c.rounds.core step.new.self step.result step.ensures.turn c.rounds.invariant.told)
+    let flushed = c.flush_step-step in
+    flush_told made.new.self flushed.new.self flushed.result flushed.ensures.turn
+    (step_told step.new.self made.new.self made.result made.ensures.turn (boot_told c.rounds.core step.new.self step.result step.ensures.turn c.rounds.invariant.told))
 
 pub rounds-preserved : goal.rounds-preserved
 rounds-preserved g c =
     let step = c.resume_step-step in
     let made = c.write_step-step in
+    let flushed = c.flush_step-step in
     let left : c.rounds.made + c.in_ok-booted.booted < c.args.moves = omega (arith, c.rounds-test.true, c.in_ok-booted.ensures.few, c.if-made-booted.false) in
-    let some : 1 ≤ c.in_ok-booted.booted + c.in_ok-written.written = omega (arith, c.if-booted-written-eq0.false) in
+    let half =
+    written c.args.moves c.args.core.now step.new.self made.new.self c.rounds.made c.in_ok-booted.booted c.in_ok-written.written made.result
+    (booted c.args.moves c.args.core.now c.rounds.core step.new.self c.rounds.made c.in_ok-booted.booted step.result c.rounds.invariant.goes c.rounds-test.true step.ensures.turn c.in_ok-booted.ensures.moves)
+    left made.ensures.turn c.in_ok-written.ensures.moves in
+    let still : c.rounds.made + (c.in_ok-booted.booted + c.in_ok-written.written) < c.args.moves = omega (arith, left, c.in_ok-written.ensures.few, c.if-made-booted-2.false) in
+    let some : 1 ≤ c.in_ok-booted.booted + c.in_ok-written.written + c.in_ok-flushed.flushed = omega (arith, c.if-booted-written-eq0.false) in
     record {
       goes =
-          round_gone c.args.moves c.args.core.now made.new.self c.rounds.made (c.in_ok-booted.booted + c.in_ok-written.written) some
-          (round_of c.args.moves c.args.core.now step.new.self made.new.self c.rounds.made c.in_ok-booted.booted c.in_ok-written.written made.result
-          (booted c.args.moves c.args.core.now c.rounds.core step.new.self c.rounds.made c.in_ok-booted.booted step.result c.rounds.invariant.goes c.rounds-test.true step.ensures.turn c.in_ok-booted.ensures.moves)
-          left made.ensures.turn c.in_ok-written.ensures.moves);
-      few = omega (arith, left, c.in_ok-written.ensures.few);
-      told = step_told step.new.self made.new.self made.result made.ensures.turn (boot_told c.rounds.core step.new.self step.result step.ensures.turn c.rounds.invariant.told);
+          round_gone c.args.moves c.args.core.now flushed.new.self c.rounds.made (c.in_ok-booted.booted + c.in_ok-written.written + c.in_ok-flushed.flushed) some
+          (round_of c.args.moves c.args.core.now made.new.self flushed.new.self c.rounds.made (c.in_ok-booted.booted + c.in_ok-written.written) c.in_ok-flushed.flushed flushed.result half still
+          flushed.ensures.turn c.in_ok-flushed.ensures.moves);
+      few = omega (arith, still, c.in_ok-flushed.ensures.few);
+      told =
+          flush_told made.new.self flushed.new.self flushed.result flushed.ensures.turn
+          (step_told step.new.self made.new.self made.result made.ensures.turn (boot_told c.rounds.core step.new.self step.result step.ensures.turn c.rounds.invariant.told));
     }
 
 pub returns-clause-carried : goal.returns-clause-carried

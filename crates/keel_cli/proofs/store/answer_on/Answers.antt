@@ -1,10 +1,11 @@
 use Rattle.std.proofs.Common.{refl, inr}
-use Rattle.keel_script.specs.declared.command.Command.TheVariants.{Drain, ResumeStep, Write}
+use Rattle.keel_script.specs.declared.command.Command.TheVariants.{Drain, Flush, ResumeStep, Write}
 use Rattle.keel_cli.specs.Boots.{BootRun, BootCut}
 use Rattle.keel_cli.specs.Drains.{DrainRun, DrainCut}
+use Rattle.keel_cli.specs.Flushes.{FlushRun, FlushCut}
 use Rattle.keel_cli.specs.Puts.{put_batch, del_batch, PutRun, PutCut, QueueRun, QueueCut}
 use Rattle.keel_cli.specs.Writes.{WriteRun, WriteCut}
-use Rattle.keel_cli.proofs.Carrying.{called, cut_before}
+use Rattle.keel_cli.proofs.Carrying.{called, cut_before, error_told, levels_told}
 use Rattle.keel_cli.proofs.store.answer_on.Goals as goal
 
 pub returns-in-Write-clause-out : goal.returns-in-Write-clause-out
@@ -14,6 +15,22 @@ returns-in-Write-clause-out g c s stands borne =
     (called c.args.options.now s Write c.args.core.now ran.new.core ran.result c.one-in-Write.result
     (WriteRun s) (WriteCut s) stands refl (λ replies next run. run) (λ next cut. inr cut)
     c.one-in-Write.ensures.ok c.one-in-Write.ensures.err (ran.ensures.carried s stands) (ran.ensures.cut s stands))
+
+pub returns-in-Flush-clause-out : goal.returns-in-Flush-clause-out
+returns-in-Flush-clause-out g c s stands borne =
+    let ran = c.flush in
+    rw c.in-Flush.is
+    (called c.args.options.now s Flush c.args.core.now ran.new.core ran.result c.one-in-Flush.result
+    (FlushRun s) (FlushCut s) stands refl (λ replies next run. run) (λ next cut. inr cut)
+    c.one-in-Flush.ensures.ok c.one-in-Flush.ensures.err (ran.ensures.carried s stands) (ran.ensures.cut s stands))
+
+pub returns-in-Error-clause-out : goal.returns-in-Error-clause-out
+returns-in-Error-clause-out g c s stands borne =
+    rw c.in-Error.is (error_told c.args.options.now c.args.core.now s stands c.error.result (c.error.ensures s stands))
+
+pub returns-in-Levels-clause-out : goal.returns-in-Levels-clause-out
+returns-in-Levels-clause-out g c s stands borne =
+    rw c.in-Levels.is (levels_told c.args.options.now c.args.core.now s stands c.levels.result c.levels.ensures.turn)
 
 pub returns-in-ResumeStep-clause-out : goal.returns-in-ResumeStep-clause-out
 returns-in-ResumeStep-clause-out g c s stands borne =
