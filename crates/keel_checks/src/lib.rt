@@ -1,5 +1,5 @@
-//! Tests that stand on several layers: logs, openings, the deleter, the manifest and the boot's job over the device in
-//! memory.
+//! Tests that stand on several layers and that no workload can say: logs and their rotation, the deleter, and what a
+//! crash may leave of manifests, over the device in memory. Openings, boots and flushes are tested by workloads.
 //!
 //! It gives nothing to other crates. The layers' own tests need no device, so that a change of the device in memory
 //! proves the program and these tests again, and no layer between.
@@ -11,7 +11,3 @@ mod deletions;
 mod logs;
 #[cfg(test)]
 mod manifests;
-#[cfg(test)]
-mod openings;
-#[cfg(test)]
-mod resume;
