@@ -43,7 +43,7 @@ ADVICE = {
     "refused bad-log": COPY,
     "refused log-gap": COPY,
     "booting": "the boot behind the opening failed; look whether the host has room, and open the store again",
-    "full": "close the store and open it again, or give it a greater write_buffer or max_immutables",
+    "full": "a flush made no room; look whether the host has room, and open the store again",
     "read-fault": "a table can't be read; look at the folder, and open the store again",
     "bad-check": COPY,
     "bad-shape": COPY,
@@ -87,7 +87,7 @@ class Booting(Refused):
 
 
 class Full(Refused):
-    """`full`: the segments in memory are full. Reads go on, and an opening has room again."""
+    """`full`: the segments in memory are full, and a flush made no room. Nothing was written, and reads go on."""
 
 
 class NotOpen(Refused):
@@ -246,12 +246,15 @@ class Keel:
 
         With `sync` it is durable once this came back, with all written before it since the opening.
         Without, reads show it, and a power loss may lose it.
+        Where the segments in memory are full they are flushed first.
         """
-        return self._number_of(self._put_line(key, value, sync), "ok")
+        line = self._put_line(key, value, sync)
+        return self._with_room(lambda: self._number_of(line, "ok"))
 
     def delete(self, key, sync=True):
         """Deletes a key, whether it is there or not, and gives the number of the op. It is durable as a put is."""
-        return self._number_of(self._delete_line(key, sync), "ok")
+        line = self._delete_line(key, sync)
+        return self._with_room(lambda: self._number_of(line, "ok"))
 
     def get(self, key):
         """The value of a key, or None. It may be one that isn't durable."""
@@ -291,7 +294,7 @@ class Keel:
         try:
             for key, value in ops:
                 line = self._delete_line(key, sync) if value is None else self._put_line(key, value, sync)
-                self._number_of("queue 0 " + line, "queued")
+                self._with_room(lambda: self._number_of(f"queue 0 {line}", "queued"))
                 queued += 1
         except (Refused, Stopped) as error:
             refusal = error
@@ -299,6 +302,28 @@ class Keel:
         if refusal is not None:
             raise refusal
         return last
+
+    def flush(self):
+        """Flushes the full segments into tables, which makes room for writes. A write does so where it needs room.
+
+        Raises `Failed` where a call of the device failed; nothing is lost by that, and writes may stop.
+        """
+        words = self._ask("flush")
+        while words[0] in ("moved", "done"):
+            words = self._ask("flush")
+        if words != ["idle"]:
+            self._give_up("flush", words)
+
+    def _with_room(self, ask):
+        """What `ask` gives. Where the store is full it is flushed, and then asked once more."""
+        try:
+            return ask()
+        except Full as full:
+            try:
+                self.flush()
+            except (Failed, Refused):
+                raise full
+        return ask()
 
     def _set_option(self, name, value):
         line = f"option {name} {value}"
@@ -318,7 +343,7 @@ class Keel:
         """Makes steps of writing until so many queued writes are answered; gives the number of the last op."""
         last = None
         while queued > 0:
-            words = self._ask("write")
+            words = self._with_room(lambda: self._ask("write"))
             if words[0] == "moved" and len(words) == 3:
                 continue
             if words[0] != "done" or len(words) != 4:

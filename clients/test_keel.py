@@ -149,20 +149,18 @@ class OpeningTest(FolderTest):
             self.open({"buffers": 1})
         self.assertEqual(told.exception.status, 3)
 
-    def test_full(self):
+    def test_full_segments_are_flushed(self):
         with self.open({"write_buffer": 18, "max_immutables": 1}) as store:
-            store.put(b"a", b"1")
-            store.put(b"b", b"2")
-            with self.assertRaises(Full) as told:
-                store.put(b"c", b"3")
-            self.assertEqual(told.exception.words, "full 18 1")
-            self.assertIn("open it again", str(told.exception))
-            with self.assertRaises(Full):
-                store.write([(b"c", b"3")])
-            self.assertEqual(store.scan(), [(b"a", b"1"), (b"b", b"2")])
+            for count in range(1, 6):
+                self.assertEqual(store.put(b"k%d" % count, b"v"), count)
+            self.assertEqual(store.delete(b"k1"), 6)
+            self.assertEqual(store.write([(b"a", b"1"), (b"b", b"2")]), 8)
+            store.flush()
+            self.assertEqual([key for key, _ in store.scan()], [b"a", b"b", b"k2", b"k3", b"k4", b"k5"])
         with self.open() as store:
-            self.assertEqual(store.put(b"c", b"3"), 3)
-            self.assertEqual(store.scan(), [(b"a", b"1"), (b"b", b"2"), (b"c", b"3")])
+            self.assertEqual(store.sequence, 8)
+            self.assertEqual(store.get(b"k5"), b"v")
+            self.assertIsNone(store.get(b"k1"))
 
     def test_replies_that_refuse(self):
         for reply, error in (("booting", Booting), ("full 18 1", Full), ("read-fault plain", ReadFault),
