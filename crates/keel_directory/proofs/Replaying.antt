@@ -73,3 +73,9 @@ pub rest_refused : (log : LogFile) (logs : List LogFile) (records : List LogReco
     → Refuses logs refusal → Refuses (log ∷ logs) refusal
 rest_refused log logs records end first refusal are here rest =
     (record { number = log.number; records = records } ∷ rest.0, ((refl, (end, are)), rest.1), rw (here, rest.2) refl)
+
+-- ---- the batches of a log's records
+
+-- the batches of records were added to others
+abbrev pub AddsRecords : ℕ → List LogRecord → List Replayed → List Replayed → Type 0
+AddsRecords log records before after = (found : List Replayed) × (batches_of log records ≡ Ok found) × (after ≡ before ++ found)

@@ -1,5 +1,5 @@
 // The files of a directory.
-ghost use Rattle.std.specs.Prelude.{◌≡◌, IfOk, Some, option_map};
+ghost use Rattle.std.specs.Prelude.{◌≡◌, IfOk, Some, if◌then◌else◌, option_map};
 ghost use Rattle.keel_base.specs.Name.{listed_before};
 ghost use Rattle.keel_disk.specs.Directory as directory;
 ghost use Rattle.keel_directory.specs.Reading as spec;
@@ -15,16 +15,12 @@ pub type File = (FileName, Bytes);
 pub(crate) fn find(files: &[File], name: FileName) -> Option<&[u8]>
     ensures { option_map (λ bytes. bytes.now) result ≡ directory.find name files.now }
 {
-    match files {
-        [] => None,
-        [file, rest @ ..] => {
-            if same_name(file.0, name) {
-                Some(file.1.as_slice())
-            } else {
-                find(rest, name)
-            }
+    for file in files {
+        if same_name(file.0, name) {
+            return Some(file.1.as_slice());
         }
     }
+    None
 }
 
 fn is_listed_before(alloc: Global, one: FileName, other: FileName) -> Result<bool, OutOfMemory>
@@ -60,19 +56,30 @@ fn is_used(file: &File) -> bool
     }
 }
 
+/// The first of a file, where it is one that a new store doesn't have, and of what was found behind it.
+fn first_of(
+    alloc: Global,
+    file: &File,
+    found: Option<FileName>,
+) -> Result<Option<FileName>, OutOfMemory>
+    ensures { IfOk result (λ first. first ≡ (if spec.is_used file.now then spec.earlier file.now.0 found else found)) }
+{
+    if is_used(file) {
+        Ok(Some(earlier(alloc, file.0, found)?))
+    } else {
+        Ok(found)
+    }
+}
+
 /// The first file of the listing that a new store doesn't have.
 pub(crate) fn first_used(alloc: Global, files: &[File]) -> Result<Option<FileName>, OutOfMemory>
     ensures { IfOk result (λ found. found ≡ spec.first_used files.now) }
 {
-    match files {
-        [] => Ok(None),
-        [file, rest @ ..] => {
-            let found = first_used(alloc, rest)?;
-            if is_used(file) {
-                Ok(Some(earlier(alloc, file.0, found)?))
-            } else {
-                Ok(found)
-            }
-        }
+    let mut found = None;
+    let mut left = files.len();
+    'files: while left > 0 {
+        left -= 1;
+        found = first_of(alloc, &files[left], found)?;
     }
+    Ok(found)
 }

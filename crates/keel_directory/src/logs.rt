@@ -36,16 +36,14 @@ fn place_of(logs: &[LogFile], number: u64) -> usize
     ensures place { result ≡ prefix_len (λ log. nat_lt log.number number) logs.now }
     ensures within { result ≤ length logs.now }
 {
-    match logs {
-        [] => 0,
-        [log, rest @ ..] => {
-            if log.number < number {
-                1 + place_of(rest, number)
-            } else {
-                0
-            }
+    let mut place = 0;
+    for log in logs {
+        if log.number >= number {
+            return place;
         }
+        place += 1;
     }
+    place
 }
 
 /// Puts a log at its place among logs in order of number. It takes the place of one with its number.
@@ -84,14 +82,13 @@ fn put_file(
 fn logs_from(alloc: Global, least: u64, files: &[File]) -> Result<Vec<LogFile>, OutOfMemory>
     ensures { IfOk result (λ logs. logs.items ≡ spec.logs_from least files.now) }
 {
-    match files {
-        [] => Ok(Vec::new(alloc)),
-        [file, rest @ ..] => {
-            let mut logs = logs_from(alloc, least, rest)?;
-            put_file(alloc, least, file, &mut logs)?;
-            Ok(logs)
-        }
+    let mut logs = Vec::new(alloc);
+    let mut left = files.len();
+    'files: while left > 0 {
+        left -= 1;
+        put_file(alloc, least, &files[left], &mut logs)?;
     }
+    Ok(logs)
 }
 
 /// The batch of a record.
@@ -126,13 +123,10 @@ fn add_records(
     ensures numbered { OnOk result (AllByRecursion spec.IsNumbered batches.old.items → AllByRecursion spec.IsNumbered batches.new.items) }
     ensures of_logs { IfErr result IsOfLogs }
 {
-    match records {
-        [] => Ok(()),
-        [found, rest @ ..] => {
-            batches.push(batch_in(alloc, log, found)?)?;
-            add_records(alloc, log, rest, batches)
-        }
+    for found in records {
+        batches.push(batch_in(alloc, log, found)?)?;
     }
+    Ok(())
 }
 
 /// Adds the batches of logs.
@@ -146,16 +140,14 @@ fn add_logs(
     ensures numbered { OnOk result (AllByRecursion spec.IsNumbered batches.old.items → AllByRecursion spec.IsNumbered batches.new.items) }
     ensures of_logs { IfErr result IsOfLogs }
 {
-    match logs {
-        [] => Ok(()),
-        [log, rest @ ..] => {
-            let records = read_log(alloc, log.bytes.as_slice())?;
-            match add_records(alloc, log.number, records.all.as_slice(), batches) {
-                Ok(()) => add_logs(alloc, rest, batches),
-                Err(error) => Err(error),
-            }
+    for log in logs {
+        let records = read_log(alloc, log.bytes.as_slice())?;
+        match add_records(alloc, log.number, records.all.as_slice(), batches) {
+            Ok(()) => {}
+            Err(error) => return Err(error),
         }
     }
+    Ok(())
 }
 
 /// The number of the last op, where each batch begins behind the one before.
@@ -164,19 +156,18 @@ fn last_number(last: u64, batches: &[Replayed]) -> Result<u64, DirectoryRefusal>
     ensures answer { Answers (λ end. end) (λ answer. answer ≡ spec.run_on last batches.now) result }
     ensures of_logs { last < 2 ^ 63 → IfErr result IsOfLogs }
 {
-    match batches {
-        [] => Ok(last),
-        [batch, rest @ ..] => {
-            if batch.seq == 0 || batch.seq - 1 != last {
-                return Err(DirectoryRefusal::LogGap {
-                    log: batch.log,
-                    last,
-                    found: batch.seq,
-                });
-            }
-            last_number(last + batch.ops.len() as u64, rest)
+    let mut last = last;
+    for batch in batches {
+        if batch.seq == 0 || batch.seq - 1 != last {
+            return Err(DirectoryRefusal::LogGap {
+                log: batch.log,
+                last,
+                found: batch.seq,
+            });
         }
+        last += batch.ops.len() as u64;
     }
+    Ok(last)
 }
 
 /// What logs give, in this order, where the last op before them has the number `last`.
@@ -234,13 +225,12 @@ fn add_ops(alloc: Global, seq: u64, ops: &[Op], rows: &mut Vec<Row>) -> Result<(
     requires { seq + length ops.now < 2 ^ 64 }
     ensures { OnOk result (rows.new.items ≡ rows.old.items ++ op_rows seq ops.now) }
 {
-    match ops {
-        [] => Ok(()),
-        [op, rest @ ..] => {
-            rows.push(row_of(alloc, seq, op)?)?;
-            add_ops(alloc, seq + 1, rest, rows)
-        }
+    let mut seq = seq;
+    for op in ops {
+        rows.push(row_of(alloc, seq, op)?)?;
+        seq += 1;
     }
+    Ok(())
 }
 
 /// Adds the rows of batches.
@@ -252,11 +242,8 @@ pub(crate) fn add_batches(
     requires { AllByRecursion spec.IsNumbered batches.now }
     ensures { OnOk result (rows.new.items ≡ rows.old.items ++ spec.replayed_rows batches.now) }
 {
-    match batches {
-        [] => Ok(()),
-        [batch, rest @ ..] => {
-            add_ops(alloc, batch.seq, batch.ops.as_slice(), rows)?;
-            add_batches(alloc, rest, rows)
-        }
+    for batch in batches {
+        add_ops(alloc, batch.seq, batch.ops.as_slice(), rows)?;
     }
+    Ok(())
 }

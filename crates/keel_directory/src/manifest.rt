@@ -64,13 +64,11 @@ fn behind_records(
 ) -> Result<Version, DirectoryRefusal>
     ensures { Answers (λ next. next) (λ answer. answer ≡ spec.behind_edits version records.now) result }
 {
-    match records {
-        [] => Ok(version),
-        [found, rest @ ..] => {
-            let next = behind_record(alloc, version, found)?;
-            behind_records(alloc, next, rest)
-        }
+    let mut version = version;
+    for found in records {
+        version = behind_record(alloc, version, found)?;
     }
+    Ok(version)
 }
 
 /// The version of a manifest, which has an edit at least.

@@ -1,5 +1,5 @@
 // The map of rows: of all rows of a key the newest counts.
-ghost use Rattle.std.specs.Prelude.{◌≡◌, ◌≤◌, not, ◌∷◌, filter, length, IfOk, OnOk, Some, option_copied};
+ghost use Rattle.std.specs.Prelude.{◌≡◌, ◌≤◌, not, ◌∷◌, filter, length, IfOk, OnOk, Some, if◌then◌else◌, option_copied};
 ghost use Rattle.std.specs.List.{prefix_len};
 ghost use Rattle.keel_base.specs.Keys.{key_eq, key_lt};
 ghost use Rattle.keel_base.specs.Rows as spec;
@@ -20,21 +20,28 @@ fn is_below(key: &[u8], other: &[u8]) -> bool
     key.cmp(other).is_lt()
 }
 
+/// The newer of a row, where it is one of the key, and of what was found behind it.
+fn newest_of<'a>(row: &'a Row, found: Option<&'a Row>, key: &[u8]) -> Option<&'a Row>
+    ensures { option_copied result ≡ (if key_eq row.now.key key.now then spec.newer row.now (option_copied found.entry) else option_copied found.entry) }
+{
+    if is_same(row.key.as_slice(), key) {
+        Some(newer(row, found))
+    } else {
+        found
+    }
+}
+
 /// Of the rows of a key the newest.
 fn newest<'a>(rows: &'a [Row], key: &[u8]) -> Option<&'a Row>
     ensures { option_copied result ≡ spec.newest key.now rows.now }
 {
-    match rows {
-        [] => None,
-        [row, rest @ ..] => {
-            let found = newest(rest, key);
-            if is_same(row.key.as_slice(), key) {
-                Some(newer(row, found))
-            } else {
-                found
-            }
-        }
+    let mut found = None;
+    let mut left = rows.len();
+    'rows: while left > 0 {
+        left -= 1;
+        found = newest_of(&rows[left], found, key);
     }
+    found
 }
 
 /// Of two rows the one of the greater number.
@@ -59,16 +66,14 @@ fn place_of(pairs: &[(Bytes, Bytes)], key: &[u8]) -> usize
     ensures place { result ≡ prefix_len (λ pair. not (key_lt key.now pair.0)) pairs.now }
     ensures within { result ≤ length pairs.now }
 {
-    match pairs {
-        [] => 0,
-        [pair, rest @ ..] => {
-            if is_below(key, pair.0.as_slice()) {
-                0
-            } else {
-                1 + place_of(rest, key)
-            }
+    let mut place = 0;
+    for pair in pairs {
+        if is_below(key, pair.0.as_slice()) {
+            return place;
         }
+        place += 1;
     }
+    place
 }
 
 /// Sets what a row leaves of its key.
@@ -118,12 +123,12 @@ fn add_row(
 pub(crate) fn pairs_of(alloc: Global, rows: &[Row]) -> Result<Vec<(Bytes, Bytes)>, OutOfMemory>
     ensures { IfOk result (λ pairs. ArePairsOf rows.now pairs.items) }
 {
-    match rows {
-        [] => Ok(Vec::new(alloc)),
-        [row, rest @ ..] => {
-            let mut pairs = pairs_of(alloc, rest)?;
-            add_row(alloc, row, rest, &mut pairs)?;
-            Ok(pairs)
-        }
+    let mut pairs = Vec::new(alloc);
+    let mut left = rows.len();
+    'rows: while left > 0 {
+        let rest = &rows[left..];
+        left -= 1;
+        add_row(alloc, &rows[left], rest, &mut pairs)?;
     }
+    Ok(pairs)
 }

@@ -1,5 +1,5 @@
 // The tables of a version in a directory.
-ghost use Rattle.std.specs.Prelude.{◌≡◌, List, [], ◌++◌, length, IfErr, IfOk, Ok, OnOk, None, Some, is_none, is_some, option_copied, option_map};
+ghost use Rattle.std.specs.Prelude.{◌≡◌, List, [], ◌++◌, length, IfErr, IfOk, Ok, OnOk, None, Some, is_none, is_some, if◌then◌else◌, option_copied, option_map};
 ghost use Rattle.std.specs.List.{flat_map};
 ghost use Rattle.keel_table.specs.Opening.{Opened, block_found, opened};
 ghost use Rattle.keel_directory.specs.Answers.{Answers, Names, TableRowsAre, damage_named};
@@ -30,21 +30,29 @@ fn lesser<'a>(table: &'a Added, found: Option<&'a Added>) -> &'a Added
     }
 }
 
+/// The lesser of a table, where it counts, and of what was found behind it.
+fn lesser_where<'a>(counts: bool, table: &'a Added, found: Option<&'a Added>) -> Option<&'a Added>
+    ensures { option_copied result ≡ (if counts then spec.lesser table.now (option_copied found.entry) else option_copied found.entry) }
+{
+    if counts {
+        Some(lesser(table, found))
+    } else {
+        found
+    }
+}
+
 /// The table of the least number whose file isn't there.
 fn missing<'a>(files: &[File], tables: &'a [Added]) -> Option<&'a Added>
     ensures { option_copied result ≡ spec.least (λ table. is_none (spec.bytes_of files.now table)) tables.now }
 {
-    match tables {
-        [] => None,
-        [table, rest @ ..] => {
-            let found = missing(files, rest);
-            if table_bytes(files, table).is_none() {
-                Some(lesser(table, found))
-            } else {
-                found
-            }
-        }
+    let mut found = None;
+    let mut left = tables.len();
+    'tables: while left > 0 {
+        left -= 1;
+        let table = &tables[left];
+        found = lesser_where(table_bytes(files, table).is_none(), table, found);
     }
+    found
 }
 
 /// What is wrong with the file of a table of that size.
@@ -83,17 +91,14 @@ fn damaged<'a>(
 ) -> Result<Option<&'a Added>, OutOfMemory>
     ensures { IfOk result (λ found. option_copied found ≡ spec.least (λ table. is_some (spec.damage_in table.size (spec.bytes_of files.now table))) tables.now) }
 {
-    match tables {
-        [] => Ok(None),
-        [table, rest @ ..] => {
-            let found = damaged(alloc, files, rest)?;
-            if damage_in(alloc, files, table)?.is_some() {
-                Ok(Some(lesser(table, found)))
-            } else {
-                Ok(found)
-            }
-        }
+    let mut found = None;
+    let mut left = tables.len();
+    'tables: while left > 0 {
+        left -= 1;
+        let table = &tables[left];
+        found = lesser_where(damage_in(alloc, files, table)?.is_some(), table, found);
     }
+    Ok(found)
 }
 
 /// Whether all tables of a version are there and open, or why they aren't read.
@@ -144,14 +149,13 @@ fn add_blocks(
 ) -> Result<(), OutOfMemory>
     ensures { OnOk result (rows.new.items ≡ rows.old.items ++ spec.block_rows bytes.now before.now entries.now) }
 {
-    match entries {
-        [] => Ok(()),
-        [entry, rest @ ..] => {
-            let mut found = block_rows(alloc, bytes, before, entry)?.into_vec();
-            rows.append(&mut found)?;
-            add_blocks(alloc, bytes, entry.last.as_slice(), rest, rows)
-        }
+    let mut before = before;
+    for entry in entries {
+        let mut found = block_rows(alloc, bytes, before, entry)?.into_vec();
+        rows.append(&mut found)?;
+        before = entry.last.as_slice();
     }
+    Ok(())
 }
 
 /// Adds the rows of a table that opens.
@@ -165,6 +169,21 @@ fn add_table(alloc: Global, bytes: &[u8], rows: &mut Vec<Row>) -> Result<(), Out
     }
 }
 
+/// Adds the rows of a table whose file is there and opens.
+fn add_file(
+    alloc: Global,
+    files: &[File],
+    table: &Added,
+    rows: &mut Vec<Row>,
+) -> Result<(), OutOfMemory>
+    ensures { OnOk result ((t : TableFile) → spec.Opens files.now table.now t → rows.new.items ≡ rows.old.items ++ spec.table_rows t) }
+{
+    match table_bytes(files, table) {
+        Some(bytes) => add_table(alloc, bytes, rows),
+        None => Ok(()),
+    }
+}
+
 /// Adds the rows of tables that are all there and open.
 fn add_tables(
     alloc: Global,
@@ -174,15 +193,10 @@ fn add_tables(
 ) -> Result<(), OutOfMemory>
     ensures { OnOk result ((read : List TableFile) → spec.AllOpen files.now tables.now read → rows.new.items ≡ rows.old.items ++ flat_map spec.table_rows read) }
 {
-    match tables {
-        [] => Ok(()),
-        [table, rest @ ..] => {
-            if let Some(bytes) = table_bytes(files, table) {
-                add_table(alloc, bytes, rows)?;
-            }
-            add_tables(alloc, files, rest, rows)
-        }
+    for table in tables {
+        add_file(alloc, files, table, rows)?;
     }
+    Ok(())
 }
 
 /// The rows of the tables of a version, or why they aren't read.
