@@ -1,10 +1,14 @@
 pub mod Adding
+pub mod Bounds
 pub mod Descending
 pub mod Growing
 pub mod Halves
+pub mod Heights
 pub mod Indexing
 pub mod Orders
 pub mod Planting
+pub mod Reaching
+pub mod Routes
 pub mod Seeking
 pub mod Trees
 pub mod Vacancies

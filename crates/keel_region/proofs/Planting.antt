@@ -10,10 +10,12 @@ use Rattle.keel_region.specs.Places.{IsPlaceOf}
 use Rattle.keel_region.specs.Slots.{node_at}
 use Rattle.keel_region.specs.Spans.{bytes_at}
 use Rattle.keel_region.specs.Trees.{Tree, Leaf, Fork, root_of, walk, IsStored, Makes, Joins, put_in}
+use Rattle.keel_region.specs.Turns.{Evens, Grows}
 use Rattle.keel_region.proofs.Adding.{put_in_order}
 use Rattle.keel_region.proofs.Halves.{fails_from}
+use Rattle.keel_region.proofs.Heights.{grows_left, grows_right, grows_first}
 use Rattle.keel_region.proofs.Orders.{Precedes-before}
-use Rattle.keel_region.proofs.Trees.{all_front, all_back, back_order, front_order, cross_order, halves, no_walk, after_left, after_right}
+use Rattle.keel_region.proofs.Trees.{all_front, all_back, back_order, front_order, cross_order, halves, no_walk, leaf_is, after_left, after_right}
 
 left_by : (test : IndexEntry → Bool) (x y : IndexEntry) (xs : List IndexEntry) (e : IndexEntry) (ys : List IndexEntry) (b : Bool) → test y ≡ b
     → put_in test x (xs ++ e ∷ ys) ≡ put_in test x xs ++ e ∷ ys → put_in test x (y ∷ (xs ++ e ∷ ys)) ≡ put_in test x (y ∷ xs) ++ e ∷ ys
@@ -97,11 +99,11 @@ get_or_self xs k d lt = get_or_default xs k (get_or xs k d) d lt
 
 abbrev pub Puts : List ℕ → List (Option Node) → List (Option Node) → IndexEntry → Option Slot → Slot → Type 0
 Puts bytes old new entry root result = (tree : Tree) → IsStored old tree → root_of tree ≡ root → AreInOrder bytes (walk tree) → IsNew bytes (walk tree) entry
-    → Makes old new (put_in (own_test bytes entry) entry (walk tree)) (Some result)
+    → Makes (Grows tree) old new (put_in (own_test bytes entry) entry (walk tree)) (Some result)
 
 module _ (bytes : List ℕ) (old mid new : List (Option Node)) (entry : IndexEntry) (slot : Slot) (node : Node) (there : node_at old slot.place ≡ Some node) (lower root : Slot) where
   pub put_right : own_test bytes entry node.entry ≡ true → Puts bytes old mid entry node.right lower
-      → Joins mid new slot.place (record { entry = node.entry; left = node.left; right = Some lower; height = node.height }) root → Puts bytes old new entry (Some slot) root
+      → Joins Evens mid new slot.place (record { entry = node.entry; left = node.left; right = Some lower; height = node.height }) root → Puts bytes old new entry (Some slot) root
   put_right before puts joins tree stands rooted order fresh =
       let half = halves old tree slot node stands rooted there in
       let test = own_test bytes entry in
@@ -118,13 +120,15 @@ module _ (bytes : List ℕ) (old mid new : List (Option Node)) (entry : IndexEnt
       (k, lt, get_or_self (walk half.left) k d lt) (0, omega arith, refl)) before) before in
       let after : AreInOrder bytes (walk half.left ++ node.entry ∷ put_in test entry (walk half.right)) =
       subst (AreInOrder bytes) same (put_order bytes (walk half.left ++ node.entry ∷ walk half.right) entry whole fresh_whole) in
-      subst (λ (xs : List IndexEntry). Makes old new xs (Some root)) (sym (ap (put_in test entry) half.is ∙ same))
-      (after_right old mid new bytes (put_in test entry (walk half.right)) half.left slot.place
+      subst (λ (xs : List IndexEntry). Makes (Grows tree) old new xs (Some root)) (sym (ap (put_in test entry) half.is ∙ same))
+      (after_right (Grows half.right) (Grows tree) Evens old mid new bytes (put_in test entry (walk half.right)) half.left slot.place
       (record { entry = node.entry; left = node.left; right = Some lower; height = node.height }) root
-      made half.stands_left half.root_left (record { node = node; there = there; is = refl }) after joins)
+      made half.stands_left half.root_left (record { node = node; there = there; is = refl }) after joins
+      (λ lower grown more evens.
+      subst (λ (t : Tree). Grows t grown) (sym half.fork) (grows_right slot.place node.entry node.height half.left half.right lower grown more evens)))
 
   pub put_left : own_test bytes entry node.entry ≡ false → Puts bytes old mid entry node.left lower
-      → Joins mid new slot.place (record { entry = node.entry; left = Some lower; right = node.right; height = node.height }) root → Puts bytes old new entry (Some slot) root
+      → Joins Evens mid new slot.place (record { entry = node.entry; left = Some lower; right = node.right; height = node.height }) root → Puts bytes old new entry (Some slot) root
   put_left behind puts joins tree stands rooted order fresh =
       let half = halves old tree slot node stands rooted there in
       let test = own_test bytes entry in
@@ -137,10 +141,12 @@ module _ (bytes : List ℕ) (old mid new : List (Option Node)) (entry : IndexEnt
       put_in_left test entry (walk half.left) node.entry (walk half.right) behind in
       let after : AreInOrder bytes (put_in test entry (walk half.left) ++ node.entry ∷ walk half.right) =
       subst (AreInOrder bytes) same (put_order bytes (walk half.left ++ node.entry ∷ walk half.right) entry whole fresh_whole) in
-      subst (λ (xs : List IndexEntry). Makes old new xs (Some root)) (sym (ap (put_in test entry) half.is ∙ same))
-      (after_left old mid new bytes (put_in test entry (walk half.left)) half.right slot.place
+      subst (λ (xs : List IndexEntry). Makes (Grows tree) old new xs (Some root)) (sym (ap (put_in test entry) half.is ∙ same))
+      (after_left (Grows half.left) (Grows tree) Evens old mid new bytes (put_in test entry (walk half.left)) half.right slot.place
       (record { entry = node.entry; left = Some lower; right = node.right; height = node.height }) root
-      made half.stands_right half.root_right (record { node = node; there = there; is = refl }) after joins)
+      made half.stands_right half.root_right (record { node = node; there = there; is = refl }) after joins
+      (λ lower grown more evens.
+      subst (λ (t : Tree). Grows t grown) (sym half.fork) (grows_left slot.place node.entry node.height half.left half.right lower grown more evens)))
 
 none_node : (old : List (Option Node)) (place : ℕ) (node : Node) → node_at old place ≡ None → node_at old place ≡ Some node → ⊥
 none_node old place node e f = cc
@@ -150,11 +156,12 @@ pub put_first : (bytes : List ℕ) (old new : List (Option Node)) (entry : Index
     → node_at new slot.place ≡ Some (record { entry = entry; left = None; right = None; height = 1 })
     → ((place : ℕ) → place ≢ slot.place → node_at new place ≡ node_at old place) → Puts bytes old new entry None slot
 put_first bytes old new entry slot free taken others tree stands rooted order fresh =
-    subst (λ (xs : List IndexEntry). Makes old new (put_in (own_test bytes entry) entry xs) (Some slot)) (sym (no_walk tree rooted))
+    subst (λ (xs : List IndexEntry). Makes (Grows tree) old new (put_in (own_test bytes entry) entry xs) (Some slot)) (sym (no_walk tree rooted))
     (record {
       tree = Fork slot.place entry 1 Leaf Leaf;
       rooted = refl;
       stands = (taken, tt, tt);
       is = refl;
+      shape = subst (λ (t : Tree). Grows t (Fork slot.place entry 1 Leaf Leaf)) (sym (leaf_is tree rooted)) (grows_first slot.place entry);
       others = λ p n e out. others p (λ same. none_node old p n (ap (node_at old) same ∙ free) e) ∙ e;
     })

@@ -1,6 +1,9 @@
+pub mod Indexes
 pub mod Order
 pub mod Places
 pub mod Shown
 pub mod Slots
 pub mod Spans
 pub mod Trees
+pub mod Turns
+pub mod Ways

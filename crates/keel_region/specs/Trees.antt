@@ -1,5 +1,5 @@
 -- Search trees whose nodes lie in the slots of a pool.
-use Rattle.std.specs.Prelude.{◌≡◌, ℕ, zero, suc, ◌+◌, ◌≤◌, Bool, true, false, List, [], ◌∷◌, ◌++◌, length, All, Contains, Option, Some, None, IsSome, if◌then◌else◌}
+use Rattle.std.specs.Prelude.{◌≡◌, ℕ, zero, suc, ◌+◌, ◌≤◌, max, Bool, true, false, List, [], ◌∷◌, ◌++◌, length, All, Contains, Option, Some, None, IsSome, if◌then◌else◌}
 use Rattle.keel_region.specs.declared.span.IndexEntry.{IndexEntry}
 use Rattle.keel_region.specs.declared.pool.Node.{Node}
 use Rattle.keel_region.specs.declared.pool.Slot.{Slot}
@@ -22,6 +22,27 @@ abbrev pub walk : Tree → List IndexEntry
 walk Leaf = []
 walk (Fork place entry height left right) = walk left ++ entry ∷ walk right
 
+-- the slots of its nodes, in the same order
+abbrev pub places : Tree → List ℕ
+places Leaf = []
+places (Fork place entry height left right) = places left ++ place ∷ places right
+
+-- the height that its root keeps
+abbrev pub height_of : Tree → ℕ
+height_of Leaf = 0
+height_of (Fork place entry height left right) = height
+
+-- two subtrees whose heights differ by at most one
+pub record AreEven (left right : Tree) : Type 0 where
+  pub left_low : height_of left ≤ height_of right + 1
+  pub right_low : height_of right ≤ height_of left + 1
+
+-- each node keeps its height, one more than the greater of its children's, which are even
+abbrev pub IsBalanced : Tree → Type 0
+IsBalanced Leaf = Unit {0}
+IsBalanced (Fork place entry height left right) =
+    (height ≡ suc (max (height_of left) (height_of right))) × AreEven left right × IsBalanced left × IsBalanced right
+
 -- its nodes stand in their slots
 abbrev pub IsStored : List (Option Node) → Tree → Type 0
 IsStored slots Leaf = Unit {0}
@@ -32,6 +53,10 @@ IsStored slots (Fork place entry height left right) =
 abbrev pub node_below : List (Option Node) → Option Slot → Option Node
 node_below slots None = None
 node_below slots (Some slot) = node_at slots slot.place
+
+-- the height that a root keeps
+abbrev pub height_at : List (Option Node) → Option Slot → ℕ
+height_at slots root = elim (node_below slots root) [ None ↦ 0 | Some node ↦ node.height ]
 
 -- the tree below a root, so many nodes deep
 unfoldable pub grown : ℕ → List (Option Node) → Option Slot → Tree
@@ -66,22 +91,23 @@ KeepsOthers old new entries = (place : ℕ) (node : Node) → node_at old place 
 abbrev pub KeepsTaken : List (Option Node) → List (Option Node) → Type 0
 KeepsTaken old new = (place : ℕ) → IsSome (node_at old place) → IsSome (node_at new place)
 
--- a tree of these entries stands below the root now, and nodes of other entries stay
-pub record Makes (old new : List (Option Node)) (entries : List IndexEntry) (root : Option Slot) : Type 0 where
+-- a tree of these entries stands below the root now, of which that is known, and nodes of other entries stay
+pub record Makes (known : Tree → Type 0) (old new : List (Option Node)) (entries : List IndexEntry) (root : Option Slot) : Type 0 where
   pub tree : Tree
   pub rooted : root_of tree ≡ root
   pub stands : IsStored new tree
   pub is : walk tree ≡ entries
+  pub shape : known tree
   pub others : KeepsOthers old new entries
 
--- the trees below a node's children and its entry between them are the tree below the root now
-abbrev pub Joins : List (Option Node) → List (Option Node) → ℕ → Node → Slot → Type 0
-Joins old new place node root = (bytes : List ℕ) (left right : Tree) → IsStored old left → root_of left ≡ node.left → IsStored old right → root_of right ≡ node.right
-    → HasEntry old place node.entry → AreInOrder bytes (walk left ++ node.entry ∷ walk right) → Makes old new (walk left ++ node.entry ∷ walk right) (Some root)
+-- the trees below a node's children and its entry between them are the tree below the root now, of which that is known
+abbrev pub Joins : (Tree → Tree → Tree → Type 0) → List (Option Node) → List (Option Node) → ℕ → Node → Slot → Type 0
+Joins known old new place node root = (bytes : List ℕ) (left right : Tree) → IsStored old left → root_of left ≡ node.left → IsStored old right → root_of right ≡ node.right
+    → HasEntry old place node.entry → AreInOrder bytes (walk left ++ node.entry ∷ walk right) → Makes (known left right) old new (walk left ++ node.entry ∷ walk right) (Some root)
 
--- the tree below the old root has the same entries below the new one
-abbrev pub Rebuilds : List (Option Node) → List (Option Node) → Option Slot → Option Slot → Type 0
-Rebuilds old new root next = (bytes : List ℕ) (tree : Tree) → IsStored old tree → root_of tree ≡ root → AreInOrder bytes (walk tree) → Makes old new (walk tree) next
+-- the tree below the old root has the same entries below the new one, and that is known of both
+abbrev pub Rebuilds : (Tree → Tree → Type 0) → List (Option Node) → List (Option Node) → Option Slot → Option Slot → Type 0
+Rebuilds known old new root next = (bytes : List ℕ) (tree : Tree) → IsStored old tree → root_of tree ≡ root → AreInOrder bytes (walk tree) → Makes (known tree) old new (walk tree) next
 
 -- an entry put in front of the first that fails the test
 abbrev pub put_in : (IndexEntry → Bool) → IndexEntry → List IndexEntry → List IndexEntry
@@ -96,9 +122,3 @@ failing_or test (entry ∷ entries) best = if test entry then failing_or test en
 -- whether an entry doesn't come behind this one
 abbrev pub is_up_to : List ℕ → IndexEntry → IndexEntry → Bool
 is_up_to bytes entry other = if entry_before bytes (bytes_at bytes other.key) (Some other.seq) entry then false else true
-
--- what an index keeps: its tree, whose nodes are all that are taken
-pub record IsIndex (slots : List (Option Node)) (spare : ℕ) (root : Option Slot) : Type 0 where
-  pub rooted : root_of (tree_at slots root) ≡ root
-  pub stands : IsStored slots (tree_at slots root)
-  pub count : length (walk (tree_at slots root)) + spare ≡ length slots

@@ -1,12 +1,17 @@
 // Entries in order, whose room is taken first: a search tree in a pool.
-ghost use Rattle.std.specs.Prelude.{◌≡◌, ℕ, ◌+◌, ◌<◌, ◌≤◌, ◌^◌, [], length, slice_get, find, Contains, OnOk, OnErr, Some};
+ghost use Rattle.std.specs.Prelude.{◌≡◌, ℕ, ◌+◌, ◌<◌, ◌≤◌, ◌^◌, [], length, slice_get, find, Contains, OnOk, OnErr, Some, None};
+ghost use Rattle.keel_region.specs.Indexes.{HasBalancedTree};
 ghost use Rattle.keel_region.specs.Order.{AreInOrder, IsNew, IsPutIn, has_key};
+ghost use Rattle.keel_region.specs.Slots.{node_at, KeepsNodes};
 ghost use Rattle.keel_region.specs.Spans.{IsHeld, AreHeld};
+ghost use Rattle.keel_region.specs.Trees.{height_at};
+ghost use Rattle.keel_region.specs.Ways.{IsSearchWay};
 
-use crate::pool::{Pool, Slot};
+use crate::path::{Path, descend};
+use crate::pool::{Node, Pool, Slot};
 use crate::region::Region;
 use crate::span::IndexEntry;
-use crate::tree::{behind, insert_below, leftmost, seek};
+use crate::tree::{behind, height, insert_below, leftmost, seek};
 use keel_base::OutOfMemory;
 use std::alloc::Global;
 use std::marker::Model;
@@ -21,11 +26,12 @@ pub struct Index {
 
 impl Model for Index {
     ghost use Rattle.keel_region.specs.Shown.{IndexShown};
-    ghost use Rattle.keel_region.specs.Trees.{tree_at, walk, IsIndex};
+    ghost use Rattle.keel_region.specs.Indexes.{IsIndex};
+    ghost use Rattle.keel_region.specs.Trees.{tree_at, walk};
 
     ghost Value = { IndexShown };
 
-    ghost view = { λ i. record { entries = walk (tree_at i.pool.slots i.root); spare = i.pool.spare } };
+    ghost view = { λ i. record { entries = walk (tree_at i.pool.slots i.root); spare = i.pool.spare; root = i.root; slots = i.pool.slots } };
 
     ghost invariant = { λ i. IsIndex i.pool.slots i.pool.spare i.root };
 }
@@ -35,6 +41,7 @@ impl Index {
     pub fn new(alloc: Global) -> Index
         ensures entries { result.entries ≡ [] }
         ensures spare { result.spare ≡ 0 }
+        ensures root { result.root ≡ None }
     {
         Index {
             pool: Pool::new(alloc),
@@ -48,6 +55,8 @@ impl Index {
         ensures ok { OnOk result (n ≤ self.new.spare) }
         ensures spare { self.old.spare ≤ self.new.spare }
         ensures err { OnErr result (self.new.spare ≡ self.old.spare) }
+        ensures root { self.new.root ≡ self.old.root }
+        ensures nodes { KeepsNodes self.old.slots self.new.slots }
     {
         self.pool.reserve(n)?;
         Ok(())
@@ -66,6 +75,8 @@ impl Index {
     {
         let root = insert_below(&mut self.pool, region, self.root, entry);
         self.root = Some(root);
+        // Its contract bounds the number of nodes, and so the height of the tree.
+        let _ = self.pool.taken();
     }
 
     /// The newest entry of that key.
@@ -97,6 +108,39 @@ impl Index {
         ensures { (k : ℕ) → slice_get self.now.entries k ≡ Some entry.now → result ≡ slice_get self.now.entries (k + 1) }
     {
         behind(&self.pool, region, self.root, entry, None)
+    }
+
+    /// The slots on the way from the root to the place of that key and sequence. It takes no memory.
+    pub fn path(&self, region: &Region, key: &[u8], seq: u64) -> Path
+        requires held { AreHeld region.now.bytes self.now.entries }
+        ensures way { IsSearchWay region.now.bytes key.now seq self.now.slots self.now.root result }
+        ensures low { length result ≤ height_at self.now.slots self.now.root }
+    {
+        let mut path = Path::new();
+        descend(&self.pool, region, self.root, key, seq, &mut path);
+        path
+    }
+
+    /// The slot of the tree's root, none where there are no entries.
+    pub fn root(&self) -> Option<Slot>
+        ensures { result ≡ self.now.root }
+    {
+        self.root
+    }
+
+    /// The node of a slot, none where it isn't taken.
+    pub fn node(&self, slot: Slot) -> Option<Node>
+        ensures { result ≡ node_at self.now.slots slot.place }
+    {
+        self.pool.get(slot)
+    }
+
+    /// The height of the tree: how many nodes its longest way has.
+    pub fn height(&self) -> u8
+        ensures height { result ≡ height_at self.now.slots self.now.root }
+        ensures tree { HasBalancedTree self.now }
+    {
+        height(&self.pool, self.root)
     }
 
     /// The number of entries.

@@ -10,6 +10,7 @@
 #![tactic(auto)]
 
 mod index;
+mod path;
 mod pool;
 mod region;
 mod search;
@@ -17,6 +18,7 @@ mod span;
 mod tree;
 
 pub use index::Index;
+pub use path::Path;
 pub use pool::{Node, Pool, Slot};
 pub use region::Region;
 pub use span::{IndexEntry, Span};

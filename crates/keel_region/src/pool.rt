@@ -1,5 +1,5 @@
 // Nodes in slots, whose room is taken first.
-ghost use Rattle.std.specs.Prelude.{◌≡◌, ◌≢◌, ℕ, ◌+◌, ◌<◌, ◌≤◌, ◌^◌, length, OnOk, OnErr, Some, None, IsSome, vec_len, vec_capacity};
+ghost use Rattle.std.specs.Prelude.{◌≡◌, ◌≢◌, ℕ, ◌+◌, ◌<◌, ◌≤◌, ◌^◌, length, OnOk, OnErr, Some, None, IsSome, is_some, count_by, vec_len, vec_capacity};
 ghost use Rattle.keel_region.specs.Slots.{node_at, IsPool, KeepsNodes};
 
 use crate::span::IndexEntry;
@@ -90,6 +90,7 @@ impl Pool {
     /// How many slots are taken.
     pub fn taken(&self) -> usize
         ensures count { result + self.now.spare ≡ length self.now.slots }
+        ensures nodes { result ≡ count_by is_some self.now.slots }
         ensures bound { result < 2 ^ 57 }
     {
         self.nodes.as_slice().len() - self.free.len()

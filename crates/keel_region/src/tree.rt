@@ -1,9 +1,10 @@
 // A search tree whose nodes lie in a pool, and which is kept in balance.
-ghost use Rattle.std.specs.Prelude.{◌≡◌, ℕ, ◌+◌, ◌<◌, length, false, Some, IsSome, IfSome};
+ghost use Rattle.std.specs.Prelude.{◌≡◌, ℕ, ◌+◌, ◌<◌, length, false, Some, None, IsSome, IfSome, IfNone};
 ghost use Rattle.keel_region.specs.Order.{entry_before, AreInOrder, IsNew};
 ghost use Rattle.keel_region.specs.Slots.{node_at};
 ghost use Rattle.keel_region.specs.Spans.{bytes_at, IsHeld};
-ghost use Rattle.keel_region.specs.Trees.{Tree, IsStored, root_of, walk, Joins, Rebuilds, Makes, KeepsTaken, HasTree, put_in, failing_or, is_up_to};
+ghost use Rattle.keel_region.specs.Trees.{Tree, IsStored, root_of, walk, node_below, height_at, Joins, Rebuilds, Makes, KeepsTaken, HasTree, put_in, failing_or, is_up_to};
+ghost use Rattle.keel_region.specs.Turns.{IsOver, RaisesLeft, RaisesRight, LeansLeft, LeansRight, Evens, Grows};
 
 use crate::pool::{Node, Pool, Slot};
 use crate::region::Region;
@@ -11,7 +12,9 @@ use crate::search::is_before;
 use crate::span::IndexEntry;
 
 /// The height of the tree below the root.
-fn height(pool: &Pool, root: Option<Slot>) -> u8 {
+pub(crate) fn height(pool: &Pool, root: Option<Slot>) -> u8
+    ensures { result ≡ height_at pool.now.slots root }
+{
     match root {
         None => 0,
         Some(slot) => match pool.get(slot) {
@@ -24,7 +27,7 @@ fn height(pool: &Pool, root: Option<Slot>) -> u8 {
 /// Puts the node into its slot, with the height that its subtrees give it.
 fn write(pool: &mut Pool, slot: Slot, node: Node)
     requires { IsSome (node_at pool.old.slots slot.place) }
-    ensures joins { Joins pool.old.slots pool.new.slots slot.place node slot }
+    ensures joins { Joins IsOver pool.old.slots pool.new.slots slot.place node slot }
     ensures taken { KeepsTaken pool.old.slots pool.new.slots }
     ensures spare { pool.new.spare ≡ pool.old.spare }
     ensures length { length pool.new.slots ≡ length pool.old.slots }
@@ -43,7 +46,8 @@ fn write(pool: &mut Pool, slot: Slot, node: Node)
 
 /// A child's slot with its node, where there is one.
 fn child_at(pool: &Pool, child: Option<Slot>) -> Option<(Slot, Node)>
-    ensures { IfSome result (λ x. (child ≡ Some x.0) × (node_at pool.now.slots x.0.place ≡ Some x.1)) }
+    ensures some { IfSome result (λ x. (child ≡ Some x.0) × (node_at pool.now.slots x.0.place ≡ Some x.1)) }
+    ensures none { IfNone result (node_below pool.now.slots child ≡ None) }
 {
     let slot = child?;
     Some((slot, pool.get(slot)?))
@@ -52,7 +56,7 @@ fn child_at(pool: &Pool, child: Option<Slot>) -> Option<(Slot, Node)>
 /// Writes the node with its left child in its place, below which it is then on the right.
 fn raise_left(pool: &mut Pool, slot: Slot, node: Node) -> Slot
     requires { IsSome (node_at pool.old.slots slot.place) }
-    ensures joins { Joins pool.old.slots pool.new.slots slot.place node result }
+    ensures joins { Joins RaisesLeft pool.old.slots pool.new.slots slot.place node result }
     ensures taken { KeepsTaken pool.old.slots pool.new.slots }
     ensures spare { pool.new.spare ≡ pool.old.spare }
     ensures length { length pool.new.slots ≡ length pool.old.slots }
@@ -71,7 +75,7 @@ fn raise_left(pool: &mut Pool, slot: Slot, node: Node) -> Slot
 /// Writes the node with its right child in its place, below which it is then on the left.
 fn raise_right(pool: &mut Pool, slot: Slot, node: Node) -> Slot
     requires { IsSome (node_at pool.old.slots slot.place) }
-    ensures joins { Joins pool.old.slots pool.new.slots slot.place node result }
+    ensures joins { Joins RaisesRight pool.old.slots pool.new.slots slot.place node result }
     ensures taken { KeepsTaken pool.old.slots pool.new.slots }
     ensures spare { pool.new.spare ≡ pool.old.spare }
     ensures length { length pool.new.slots ≡ length pool.old.slots }
@@ -89,7 +93,7 @@ fn raise_right(pool: &mut Pool, slot: Slot, node: Node) -> Slot
 
 /// The tree below the root, turned so that it isn't higher on the right.
 fn lean_left(pool: &mut Pool, root: Option<Slot>) -> Option<Slot>
-    ensures turns { Rebuilds pool.old.slots pool.new.slots root result }
+    ensures turns { Rebuilds LeansLeft pool.old.slots pool.new.slots root result }
     ensures taken { KeepsTaken pool.old.slots pool.new.slots }
     ensures spare { pool.new.spare ≡ pool.old.spare }
     ensures length { length pool.new.slots ≡ length pool.old.slots }
@@ -111,7 +115,7 @@ fn lean_left(pool: &mut Pool, root: Option<Slot>) -> Option<Slot>
 
 /// The tree below the root, turned so that it isn't higher on the left.
 fn lean_right(pool: &mut Pool, root: Option<Slot>) -> Option<Slot>
-    ensures turns { Rebuilds pool.old.slots pool.new.slots root result }
+    ensures turns { Rebuilds LeansRight pool.old.slots pool.new.slots root result }
     ensures taken { KeepsTaken pool.old.slots pool.new.slots }
     ensures spare { pool.new.spare ≡ pool.old.spare }
     ensures length { length pool.new.slots ≡ length pool.old.slots }
@@ -134,7 +138,7 @@ fn lean_right(pool: &mut Pool, root: Option<Slot>) -> Option<Slot>
 /// Writes the node, and turns the tree where one subtree is higher than the other by more than one.
 fn balance(pool: &mut Pool, slot: Slot, node: Node) -> Slot
     requires { IsSome (node_at pool.old.slots slot.place) }
-    ensures joins { Joins pool.old.slots pool.new.slots slot.place node result }
+    ensures joins { Joins Evens pool.old.slots pool.new.slots slot.place node result }
     ensures taken { KeepsTaken pool.old.slots pool.new.slots }
     ensures spare { pool.new.spare ≡ pool.old.spare }
     ensures length { length pool.new.slots ≡ length pool.old.slots }
@@ -163,7 +167,7 @@ pub(crate) fn insert_below(
     requires room { 0 < pool.old.spare }
     requires tree { HasTree (IsHeld region.now.bytes) pool.old.slots root }
     requires own { IsHeld region.now.bytes entry }
-    ensures puts { (tree : Tree) → IsStored pool.old.slots tree → root_of tree ≡ root → AreInOrder region.now.bytes (walk tree) → IsNew region.now.bytes (walk tree) entry → Makes pool.old.slots pool.new.slots (put_in (entry_before region.now.bytes (bytes_at region.now.bytes entry.key) (Some entry.seq)) entry (walk tree)) (Some result) }
+    ensures puts { (tree : Tree) → IsStored pool.old.slots tree → root_of tree ≡ root → AreInOrder region.now.bytes (walk tree) → IsNew region.now.bytes (walk tree) entry → Makes (Grows tree) pool.old.slots pool.new.slots (put_in (entry_before region.now.bytes (bytes_at region.now.bytes entry.key) (Some entry.seq)) entry (walk tree)) (Some result) }
     ensures taken { KeepsTaken pool.old.slots pool.new.slots }
     ensures spare { pool.new.spare + 1 ≡ pool.old.spare }
     ensures length { length pool.new.slots ≡ length pool.old.slots }

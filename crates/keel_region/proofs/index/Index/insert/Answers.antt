@@ -15,6 +15,7 @@ invariant_of-self c =
     let fresh : IsNew bytes (walk (tree_at old root)) entry = subst (λ (s : IndexShown). IsNew bytes s.entries entry) (sym c.self.view_is) c.requires.fresh in
     put_index bytes old c.insert_below-root.new.pool.slots c.self.inside.pool.spare root entry c.self.invariant order fresh
     c.insert_below-root.new.pool.spare c.insert_below-root.result c.insert_below-root.ensures.spare c.insert_below-root.ensures.length
+    c.taken.result c.taken.ensures.nodes c.taken.ensures.count c.taken.ensures.bound
     (c.insert_below-root.ensures.puts (tree_at old root) c.self.invariant.stands c.self.invariant.rooted order fresh)
 
 pub returns-clause-entries : goal.returns-clause-entries
@@ -29,6 +30,7 @@ returns-clause-entries c =
     subst (λ (s : IndexShown). IsPutIn s.entries (walk (tree_at new (Some c.insert_below-root.result))) entry) c.self.view_is
     (put_entries bytes old new c.self.inside.pool.spare root entry c.self.invariant order fresh
     c.insert_below-root.new.pool.spare c.insert_below-root.result c.insert_below-root.ensures.spare c.insert_below-root.ensures.length
+    c.taken.result c.taken.ensures.nodes c.taken.ensures.count c.taken.ensures.bound
     (c.insert_below-root.ensures.puts (tree_at old root) c.self.invariant.stands c.self.invariant.rooted order fresh))
 
 pub returns-clause-order : goal.returns-clause-order
@@ -42,4 +44,5 @@ returns-clause-order c =
     let fresh : IsNew bytes (walk (tree_at old root)) entry = subst (λ (s : IndexShown). IsNew bytes s.entries entry) (sym c.self.view_is) c.requires.fresh in
     put_ordered bytes old new c.self.inside.pool.spare root entry c.self.invariant order fresh
     c.insert_below-root.new.pool.spare c.insert_below-root.result c.insert_below-root.ensures.spare c.insert_below-root.ensures.length
+    c.taken.result c.taken.ensures.nodes c.taken.ensures.count c.taken.ensures.bound
     (c.insert_below-root.ensures.puts (tree_at old root) c.self.invariant.stands c.self.invariant.rooted order fresh)
