@@ -12,12 +12,15 @@ use Rattle.keel_machine.specs.declared.answers.Outcome.{Outcome}
 use Rattle.keel_machine.specs.declared.answers.Outcome.TheVariants as outcome
 use Rattle.keel_machine.specs.declared.steps.WriteStep.{WriteStep}
 use Rattle.keel_machine.specs.declared.steps.WriteStep.TheVariants as step
-use Rattle.keel_machine.specs.Admission.{last_seq, outcome_kept, is_on_its_way, outcome_of, queued, is_full}
+use Rattle.keel_machine.specs.Admission.{last_seq, outcome_kept, is_on_its_way, outcome_of, queued, is_full, tickets_of_group}
 use Rattle.keel_machine.specs.States.{State, Story, Group, Slot, Act, CloseLog, MakeLog, SyncDirectory, AddRecords, SyncLog, Writing, left_of, point_of, published, is_open}
-use Rattle.keel_machine.specs.Turns.{Event, Opening, Admitting, Writing as Makes, Resuming, Flushing, TakingOutcome, Getting, Scanning, Listing, TellingError, TellingLevels, Arranging, Crashing, Finishing, Turn, after}
+use Rattle.keel_machine.specs.Turns.{Event, Opening, Admitting, Writing as Makes, Resuming, Flushing, TakingOutcome, Getting, Scanning, Listing, TellingError, TellingLevels, Arranging, Crashing, Starting, Finishing, Turn, after}
 use Rattle.keel_machine.specs.Writing.{ready, started, started_or, group_plan}
 use Rattle.keel_machine.specs.WritingAfter.{seq_behind, done_each, file_drawn, with_made, with_log, switched, log_longer, batches_handed, goes_on, act_done, act_failed, first_done, first_failed, group_done, group_failed, call_done, call_failed, queue_turned, write_after}
+use Rattle.keel_machine.specs.declared.answers.Start.{Start}
+use Rattle.keel_machine.specs.Starting.{start_after}
 use Rattle.keel_recovery.specs.Machine.{MayCall}
+use Rattle.keel_cli.proofs.Starts.{each_start}
 use Rattle.keel_draft.specs.Drafts.{count_ops}
 use Rattle.keel_cli.proofs.Beside.{beside}
 use Rattle.keel_cli.proofs.Flooring.{firm_seq, firm_published, published_firm, firm_resumed}
@@ -327,6 +330,22 @@ module _ (ticket last : ℕ) where
     runs = subst (λ (slot : Slot Group). RunsSynced ticket slot.running) (sym group) synced.runs;
   }
 
+  -- a resume is asked for, and a group may be over, whose tickets aren't done
+  pub synced_begun : (s : State) (answer : Start) → IsSynced ticket last s → IsSynced ticket last (start_after s answer)
+  synced_begun s answer synced =
+      each_start (IsSynced ticket last) s answer synced
+      (record { last_is = synced.last_is; kept = synced.kept; waits = synced.waits; runs = synced.runs })
+      (record { last_is = synced.last_is; kept = synced.kept; waits = synced.waits; runs = tt })
+      (λ failure. record {
+        last_is = synced.last_is;
+        kept =
+            let tickets = tickets_of_group s.jobs.write.running in
+            kept_append ticket (firm_seq s.story) s.writing.outcomes (given (outcome.Failed failure) tickets) synced.kept
+            (kept_given ticket (firm_seq s.story) (outcome.Failed failure) tickets tt);
+        waits = synced.waits;
+        runs = tt;
+      })
+
 waits_queued : (ticket : ℕ) (batch : Batch) (given_as : ℕ) (waiting : List Ticketed) → WaitSynced ticket waiting → (given_as ≡ ticket → batch.sync ≡ true)
     → WaitSynced ticket (waiting ++ (record { ticket = given_as; batch = batch }) ∷ [])
 waits_queued ticket batch given_as [] waits is = (is, tt)
@@ -391,6 +410,9 @@ answer_fresh s (TellingLevels view) device may fresh = seen_fresh s device fresh
 answer_fresh s (Arranging rule answer) device may fresh = seen_fresh s device fresh
 answer_fresh s (Crashing pick (Some count)) device may fresh = λ opens. cc
 answer_fresh s (Crashing pick None) device may fresh = λ opens. cc
+answer_fresh s (Starting answer) device may fresh =
+    fresh_on s (after s (Starting answer) device) may
+    (λ ticket synced. synced_seen ticket s.writing.last_ticket (start_after s answer) device (synced_begun ticket s.writing.last_ticket s answer synced)) fresh
 answer_fresh s Finishing device may fresh = absurd may
 
 pub keep_fresh : (old new : State) (event : Event) → MayCall old event → Turn old event new → Fresh old → Fresh new

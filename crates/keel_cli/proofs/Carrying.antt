@@ -32,7 +32,7 @@ use Rattle.keel_open.specs.declared.refusal.OpenRefusal.TheVariants as refusal
 use Rattle.keel_table.specs.declared.fault.TableFault.{TableFault}
 use Rattle.keel_table.specs.declared.fault.TableFault.TheVariants as fault
 use Rattle.keel_core.specs.Openings.{Opens, Expects, IsBorneOut, WhereGoesOn}
-use Rattle.keel_core.specs.Views.{CoreView, StandsFor, TakesTurn, TakesRead, BootShown, ToStart, Running, Over, Cleared, last_in, phase_of}
+use Rattle.keel_core.specs.Views.{CoreView, StandsFor, TakesTurn, TakesRead, BootShown, has_booted, last_in, phase_if, phase_of}
 use Rattle.keel_recovery.specs.Machine.{IsCovered, IsCoveredBy, KeptBy, Drops, ReadsOnIn}
 use Rattle.keel_recovery.proofs.Bearing.{covered_bears}
 use Rattle.keel_recovery.proofs.Machine.{directory_at_rest}
@@ -41,7 +41,7 @@ use Rattle.keel_machine.specs.States.{is_open}
 use Rattle.keel_recovery.proofs.Crashing.{crash_turns}
 use Rattle.keel_recovery.proofs.GoingOn.{covered_reads}
 use Rattle.keel_script.specs.declared.command.Command.{Command}
-use Rattle.keel_script.specs.declared.command.Command.TheVariants.{Open, Get, Scan, Error, Files, Levels, Fail, Capacity, Crash}
+use Rattle.keel_script.specs.declared.command.Command.TheVariants.{Open, Get, Scan, Resume, Error, Files, Levels, Fail, Capacity, Crash}
 use Rattle.keel_script.specs.declared.reply.Reply.{Reply}
 use Rattle.keel_script.specs.declared.reply.Reply.TheVariants as reply
 use Rattle.keel_cli.specs.declared.answer.Answer.{Answer}
@@ -52,6 +52,7 @@ use Rattle.keel_cli.specs.Stores.{StoreView, IsShut, Shows, Stands, is_one_open,
 use Rattle.keel_cli.specs.Stores as view
 use Rattle.keel_cli.specs.Replies.{replies_of}
 use Rattle.keel_cli.specs.Runs.{fault_replies, opening_replies, listing_replies, reading_replies, rest_reply, row_replies, scan_replies, GetRun, ScanRun, CrashRun, Calls, RestsOrCalls, CarriesOnStore, CallsPartly}
+use Rattle.keel_cli.specs.Starts.{StartRun}
 use Rattle.keel_cli.specs.Telling.{error_reply, ErrorRun, level_replies}
 use Rattle.keel_cli.proofs.Tickets.{stays_told, told_in, told_by}
 
@@ -71,10 +72,11 @@ module _ (options : Options) where
   partly_on_store s new command none cut = inr (inr (none, cut))
 
 opened_in : (boot : BootShown) → is_open (phase_of boot) ≡ true
-opened_in ToStart = refl
-opened_in (Running resumption) = refl
-opened_in Over = refl
-opened_in Cleared = refl
+opened_in boot = by (has_booted boot)
+  where
+    by : (booted : Bool) → is_open (phase_if booted) ≡ true
+    by true = refl
+    by false = refl
 
 pub open_mode : (core : CoreView) (s : State) → StandsFor core s → is_open s.mode.phase ≡ true
 open_mode core s stands = ap (λ (t : State). is_open t.mode.phase) stands.state_is ∙ opened_in core.boot
@@ -129,7 +131,7 @@ forgotten_stands : (core : CoreView) (s : State) → StandsFor core s → Stands
 forgotten_stands core s stands = record {
   beyond = record stands.beyond { footing = Unknown };
   state_is = ap forgotten stands.state_is;
-  fits = record { story = stands.fits.story; segments = stands.fits.segments; tables = stands.fits.tables; opened = tt; leads = stands.fits.leads; met = stands.fits.met; handled = stands.fits.handled; flushes = stands.fits.flushes };
+  fits = record { story = stands.fits.story; segments = stands.fits.segments; tables = stands.fits.tables; opened = tt; leads = stands.fits.leads; handled = stands.fits.handled; flushes = stands.fits.flushes };
 }
 
 -- a read leaves a core that stands for some state
@@ -256,6 +258,9 @@ error_run core standing told s stands turns is =
 module _ (options : Options) (core : CoreView) (s : State) (stands : StandsFor core s) where
   pub error_told : (told : Reply) → CoreLeads core (ErrorRun s (told ∷ [])) → CarriedOut {E = OutOfMemory} options s Error (view.Open core) (Ok (answers.One told))
   error_told told leads = (leads.0, leads.1, calls_on_store options s leads.0 Error (told ∷ []) (none_where s true Error (open_mode core s stands) refl) leads.2)
+
+  pub resume_told : (new : CoreView) (told : Reply) → CoreLeads new (StartRun s (told ∷ [])) → CarriedOut {E = OutOfMemory} options s Resume (view.Open new) (Ok (answers.One told))
+  resume_told new told leads = (leads.0, leads.1, calls_on_store options s leads.0 Resume (told ∷ []) (none_where s true Resume (open_mode core s stands) refl) leads.2)
 
   pub levels_told : (levels : LevelsView) → TakesTurn core (TellingLevels levels) core → CarriedOut {E = OutOfMemory} options s Levels (view.Open core) (Ok (answers.Levels levels))
   levels_told levels turns =

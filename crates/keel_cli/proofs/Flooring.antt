@@ -23,7 +23,7 @@ use Rattle.keel_draft.specs.Drafts.{Draft, count_ops}
 use Rattle.keel_resume.specs.Plans as plans
 use Rattle.keel_group.specs.Queue.{Ticketed}
 use Rattle.keel_machine.specs.States.{State, Footing, Known, Unknown, Phase, Shut, Booting, Open, Leaving, Nothing, Crashed, Left, Mode, Story, Group, Act, CloseLog, MakeLog, SyncDirectory, AddRecords, SyncLog, Resumption, is_open, is_left, handed, published, cut_story, point_of, left_of}
-use Rattle.keel_machine.specs.Turns.{Event, Opening, Admitting, Writing as Makes, Resuming, Flushing, TakingOutcome, Getting, Scanning, Listing, TellingError, TellingLevels, Arranging, Crashing, Finishing, Turn, Answers, after}
+use Rattle.keel_machine.specs.Turns.{Event, Opening, Admitting, Writing as Makes, Resuming, Flushing, TakingOutcome, Getting, Scanning, Listing, TellingError, TellingLevels, Arranging, Crashing, Starting, Finishing, Turn, Answers, after}
 use Rattle.keel_machine.specs.Writing.{started, started_or, ready}
 use Rattle.keel_machine.specs.WritingAfter.{goes_on, switched, with_made, act_done, first_done, first_failed, group_done, group_failed, call_done, call_failed, write_after}
 use Rattle.keel_recovery.specs.Machine.{MayCall}
@@ -31,6 +31,7 @@ use Rattle.keel_recovery.proofs.Numbering.{seq_folded, counted_append}
 use Rattle.keel_recovery.proofs.Unchanged.{unmoved_ready, unmoved_done, unmoved_failed}
 use Rattle.keel_cli.proofs.Beside.{beside, open_flushed}
 use Rattle.keel_cli.proofs.Modes.{mode_written, open_resumed}
+use Rattle.keel_cli.proofs.Starts.{open_started, still_there}
 
 -- ---- ops of first batches
 
@@ -309,6 +310,9 @@ answer_held number s (Arranging rule answer) device may a held = held
 answer_held number s (Crashing pick (Some count)) device may a held = λ known.
     crashed_held s.mode.phase s.mode.left number count s.story (left_least s.footing s.mode s.story count s.device.told device.told a.leaves) (held known)
 answer_held number s (Crashing pick None) device may a held = λ known. cc
+answer_held number s (Starting answer) device may a held =
+    let same = still_there s answer in
+    still_held number s (after s (Starting answer) device) may (open_started s answer may) same.footing (omega (arith, ap firm_seq same.story)) held
 answer_held number s Finishing device may a held = absurd may
 
 -- every turn keeps a firm number
@@ -331,6 +335,7 @@ known_before s (TellingLevels view) device known = known
 known_before s (Arranging rule answer) device known = known
 known_before s (Crashing pick (Some count)) device known = known
 known_before s (Crashing pick None) device known = cc
+known_before s (Starting answer) device known = sym (still_there s answer).footing ∙ known
 known_before s Finishing device known = known
 
 -- what is known behind a turn was known before it

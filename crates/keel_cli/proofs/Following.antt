@@ -22,7 +22,10 @@ use Rattle.keel_machine.specs.declared.steps.ResumeStep.{ResumeStep}
 use Rattle.keel_machine.specs.declared.steps.ResumeStep.TheVariants as boot_step
 use Rattle.keel_machine.specs.declared.steps.WriteStep.{WriteStep}
 use Rattle.keel_machine.specs.declared.steps.WriteStep.TheVariants as step
-use Rattle.keel_recovery.specs.Machine.{ops_waiting}
+use Rattle.keel_machine.specs.declared.answers.Start.{Start}
+use Rattle.keel_machine.specs.Starting.{start_after}
+use Rattle.keel_recovery.specs.Waiting.{ops_waiting}
+use Rattle.keel_cli.proofs.Starts.{each_start}
 use Rattle.keel_draft.specs.Drafts.{Draft}
 use Rattle.keel_resume.specs.Plans as plans
 use Rattle.keel_cli.specs.ReadClaim.{Acked, found_to}
@@ -245,6 +248,14 @@ module _ (key : List ℕ) (last : Option Acked) where
   last_resumed s drafts (boot_step.Spent counter) has = has
   last_resumed s drafts (boot_step.Cancelled job current) has = has
   last_resumed s drafts boot_step.OutOfMemory has = has
+
+  -- a resume is asked for, and no group may be in flight any more
+  pub last_begun : (s : State) (answer : Start) → HasLast key last s → HasLast key last (start_after s answer)
+  last_begun s answer has =
+      each_start (HasLast key last) s answer has
+      (record { story = record { logged = has.story.logged; limbo = has.story.limbo; group = has.story.group }; waits = has.waits })
+      (record { story = record { logged = has.story.logged; limbo = has.story.limbo; group = tt }; waits = has.waits })
+      (λ failure. record { story = record { logged = has.story.logged; limbo = has.story.limbo; group = tt }; waits = has.waits })
 
   -- a flush step is beside all that
   pub last_flushed : (s : State) (draft : Draft) (made : JobStep) → HasLast key last s → HasLast key last (flush_after s draft made)

@@ -18,14 +18,14 @@ use Rattle.keel_machine.specs.declared.steps.ResumeStep.TheVariants as boot_step
 use Rattle.keel_machine.specs.declared.steps.WriteStep.{WriteStep}
 use Rattle.keel_machine.specs.declared.steps.WriteStep.TheVariants as step
 use Rattle.keel_machine.specs.States.{State, Mode}
-use Rattle.keel_machine.specs.Turns.{Event, Opening, Admitting, Writing, Resuming, Flushing, TakingOutcome, Getting, Scanning, Listing, TellingError, TellingLevels, Arranging, Crashing, Turn}
+use Rattle.keel_machine.specs.Turns.{Event, Opening, Admitting, Writing, Resuming, Flushing, TakingOutcome, Getting, Scanning, Listing, TellingError, TellingLevels, Arranging, Crashing, Starting, Turn}
 use Rattle.keel_base.specs.declared.options.Options.{Options}
 use Rattle.keel_open.specs.declared.refusal.OpenRefusal.TheVariants as refusal
 use Rattle.keel_draft.specs.Drafts.{Draft}
 use Rattle.keel_recovery.specs.Machine.{MayCall}
 use Rattle.keel_machine.specs.States.{is_open}
 use Rattle.keel_script.specs.declared.command.Command.{Command}
-use Rattle.keel_script.specs.declared.command.Command.TheVariants.{SetOption, Open, Put, Del, QueuePut, QueueDel, Write, Flush, ResumeStep, Drain, Tick, Get, Scan, Error, Files, Levels, Fail, Capacity, Crash}
+use Rattle.keel_script.specs.declared.command.Command.TheVariants.{SetOption, Open, Put, Del, QueuePut, QueueDel, Write, Flush, Resume, ResumeStep, Drain, Tick, Get, Scan, Error, Files, Levels, Fail, Capacity, Crash}
 use Rattle.keel_script.specs.declared.reply.Reply.{Reply}
 use Rattle.keel_cli.specs.declared.lines.LineStop.{LineStop}
 use Rattle.keel_cli.specs.declared.lines.LineStop.TheVariants.{Refused, Unwritten, NoMemory}
@@ -161,6 +161,8 @@ module _ (C : State → Type 0) (keep : (old new : State) (event : Event) → Ma
   calls options false old new Flush replies opened none run kept = none_some _ none
   calls options true old new ResumeStep replies opened none run kept = (resumed old new run.drafts None run.step run.turn (record { opened = opened; kept = kept })).kept
   calls options false old new ResumeStep replies opened none run kept = none_some _ none
+  calls options true old new Resume replies opened none run kept = keep old new (Starting run.answer) opened run.turn kept
+  calls options false old new Resume replies opened none run kept = none_some _ none
   calls options true old new (Scan from to) replies opened none run kept = keep old new (Scanning from to run.answer) opened run.turn kept
   calls options false old new (Scan from to) replies opened none run kept = none_some _ none
   calls options true old new (Get key) replies opened none run kept = keep old new (Getting key run.answer) opened run.turn kept

@@ -2,6 +2,7 @@ pub mod OnErr
 pub mod Endings
 pub mod GoingOn
 pub mod Tickets
+pub mod Starts
 pub mod Sizes
 pub mod PutTurns
 pub mod Moving

@@ -1,5 +1,6 @@
 -- A put that settles: it is the last of the log, or it is gone. And a ticket that wasn't given is nobody's.
-use Rattle.std.proofs.Common.{◌≡◌, ◌∙◌, inl, inr, ℕ, ◌==◌, not, Bool, true, false, if◌then◌else◌, Option, None, Some, List, [], ◌∷◌, ◌++◌, unwrap_or, refl, sym, ap, subst, arith}
+use Rattle.std.specs.Prelude.{is_some}
+use Rattle.std.proofs.Common.{length, ◌≡◌, ◌∙◌, inl, inr, ℕ, ◌==◌, not, Bool, true, false, if◌then◌else◌, Option, None, Some, List, [], ◌∷◌, ◌++◌, unwrap_or, refl, sym, ap, subst, arith}
 use Rattle.keel_base.specs.Points.{fold_batches}
 use Rattle.keel_base.specs.Keys.{key_eq}
 use Rattle.keel_base.specs.declared.failure.Failure.{Failure}
@@ -10,19 +11,20 @@ use Rattle.keel_disk.specs.State.{State as Disk}
 use Rattle.keel_disk.specs.Told.{Told}
 use Rattle.keel_flush.specs.Plans.{Job as FlushJob}
 use Rattle.keel_group.specs.Queue.{Ticketed, tickets_of}
-use Rattle.keel_machine.proofs.FirstTests.{none_first, none_of, none_mapped}
+use Rattle.keel_machine.proofs.FirstTests.{none_first, none_of, none_mapped, none_when}
 use Rattle.keel_machine.specs.Admission.{outcome_kept, is_on_its_way, outcome_of, stopping, ops_of, batches_of_group}
 use Rattle.keel_machine.specs.States.{State, Story, Footing, Known, Unknown, Phase, Shut, Booting, Open, Segment, SegmentLog, Group, is_open, is_left}
 use Rattle.keel_machine.specs.Tests.{first_some}
 use Rattle.keel_machine.specs.Turns.{Writing as Makes, TakingOutcome, after}
-use Rattle.keel_machine.specs.Writing.{ready, started, started_or, rests_of, rests_before_group, turned_away, write_rest}
+use Rattle.keel_machine.specs.Writing.{is_nobody_waiting, ready, started, started_or, rests_of, rests_before_group, turned_away, write_rest}
 use Rattle.keel_machine.specs.WritingAfter.{WriteAnswers, call_done, call_failed, queue_turned, write_after}
 use Rattle.keel_machine.specs.declared.answers.Outcome.{Outcome}
 use Rattle.keel_machine.specs.declared.answers.Outcome.TheVariants as outcome
 use Rattle.keel_machine.specs.declared.steps.WriteStep.{WriteStep}
 use Rattle.keel_machine.specs.declared.steps.WriteStep.TheVariants as step
 use Rattle.keel_manifest.specs.State.{ManifestState}
-use Rattle.keel_recovery.specs.Machine.{IsCovered, IsCoveredBy, KeptBy, HoldsBy, TurnKeeps, ops_waiting}
+use Rattle.keel_recovery.specs.Machine.{IsCovered, IsCoveredBy, KeptBy, HoldsBy, TurnKeeps}
+use Rattle.keel_recovery.specs.Waiting.{ops_waiting}
 use Rattle.keel_cli.specs.Puts.{Waits}
 use Rattle.keel_cli.specs.ReadClaim.{Acked}
 use Rattle.keel_cli.proofs.Flooring.{was_known}
@@ -43,18 +45,35 @@ none_by (Some log) state levels story immutable batches waiting None None next_f
 none_by (Some log) state levels story immutable batches waiting None (Some group) next_file in_tables flush manifest none no_group h = cc
 none_by (Some log) state levels story immutable batches waiting (Some failure) running next_file in_tables flush manifest none no_group h = cc
 
-none_kept : (phase : Phase) (b : Bool) (state : Disk) (s : State) → is_open phase ≡ true → stopping s ≡ None → s.jobs.write.running ≡ None → KeptBy phase b state s → s.story.limbo ≡ []
-none_kept Shut b state s opened none no_group h = cc
-none_kept Booting b state s opened none no_group h = h.kept.after.none_in_limbo
-none_kept Open b state s opened none no_group h =
+-- somebody waits where a group is to be formed
+nobody : (s : State) → write_rest s None ≡ None → s.jobs.write.running ≡ None → s.writing.waiting ≡ [] → ⊥
+nobody s rest no_group none_waits =
+    let here = first_some (rests_of s s.jobs.write.running) in
+    let rests : first_some (rests_of s s.jobs.write.running) ≡ None = none_first here [] rest in
+    let before : first_some (rests_before_group s) ≡ None = subst (λ (r : Option Group). first_some (rests_of s r) ≡ None) no_group rests in
+    let idle : WriteStep = step.Idle in
+    let somebody : is_nobody_waiting s ≡ false = none_when (is_nobody_waiting s) idle (none_of (rests_before_group s) before).0 in
+    never (sym (ap (λ (waiting : List Ticketed). length waiting == 0) none_waits) ∙ somebody)
+  where
+    never : true ≡ false → ⊥
+    never e = cc
+
+none_kept : (phase : Phase) (b : Bool) (state : Disk) (s : State) → is_open phase ≡ true → write_rest s None ≡ None → stopping s ≡ None → s.jobs.write.running ≡ None → KeptBy phase b state s → s.story.limbo ≡ []
+none_kept Shut b state s opened rest none no_group h = cc
+none_kept Booting b state s opened rest none no_group h = absurd (nobody s rest no_group h.none_waits)
+none_kept Open b state s opened rest none no_group (inr h) = absurd (never (sym (ap (λ (o : Option Failure). is_some o) none) ∙ h.stopped))
+  where
+    never : false ≡ true → ⊥
+    never e = cc
+none_kept Open b state s opened rest none no_group (inl h) =
     none_by s.segments.active.log state s.levels s.story s.segments.immutable s.segments.active.batches s.writing.waiting (stopping s) s.jobs.write.running s.numbers.next_file s.numbers.in_tables
     s.jobs.flush.running s.numbers.manifest none no_group h.stored
 
-none_covered : (footing : Footing) (told : Option Told) (s : State) → footing ≡ Known → is_open s.mode.phase ≡ true → stopping s ≡ None → s.jobs.write.running ≡ None
+none_covered : (footing : Footing) (told : Option Told) (s : State) → footing ≡ Known → is_open s.mode.phase ≡ true → stopping s ≡ None → s.jobs.write.running ≡ None → write_rest s None ≡ None
     → IsCoveredBy footing s.mode told s → s.story.limbo ≡ []
-none_covered Known (Some told) s known opened none no_group h = none_kept s.mode.phase (is_left s.mode.left) told.state s opened none no_group h
-none_covered Known None s known opened none no_group h = absurd h
-none_covered Unknown told s known opened none no_group h = cc
+none_covered Known (Some told) s known opened none no_group rest h = none_kept s.mode.phase (is_left s.mode.left) told.state s opened rest none no_group h
+none_covered Known None s known opened none no_group rest h = absurd h
+none_covered Unknown told s known opened none no_group rest h = cc
 
 none_stops : (s : State) → write_rest s None ≡ None → s.jobs.write.running ≡ None → stopping s ≡ None
 none_stops s none no_group =
@@ -64,7 +83,7 @@ none_stops s none no_group =
     none_mapped (turned_away s) (stopping s) (none_of (rests_before_group s) before).1.0
 
 pub no_limbo : (s : State) → s.footing ≡ Known → is_open s.mode.phase ≡ true → IsCovered s → write_rest s None ≡ None → s.jobs.write.running ≡ None → s.story.limbo ≡ []
-no_limbo s known opened covered none no_group = none_covered s.footing s.device.told s known opened (none_stops s none no_group) no_group covered
+no_limbo s known opened covered none no_group = none_covered s.footing s.device.told s known opened (none_stops s none no_group) no_group none covered
 
 -- ---- what is told of a ticket
 

@@ -9,7 +9,7 @@ use Rattle.keel_machine.specs.Admission.{outcome_kept, ops_of}
 use Rattle.keel_machine.specs.States.{Act, CloseLog, MakeLog, SyncDirectory, AddRecords, SyncLog}
 use Rattle.keel_machine.specs.Writing.{group_plan}
 use Rattle.keel_machine.specs.WritingAfter.{seq_behind, done_each}
-use Rattle.keel_recovery.specs.Machine.{ops_waiting}
+use Rattle.keel_recovery.specs.Waiting.{ops_waiting}
 use Rattle.keel_draft.specs.Drafts.{count_ops}
 use Rattle.keel_cli.specs.ReadClaim.{Acked}
 use Rattle.keel_cli.proofs.Ledger.{FreeOf, AllFree}

@@ -36,12 +36,15 @@ use Rattle.keel_machine.specs.Opening.{Found}
 use Rattle.keel_machine.specs.Reads.{WhereKnown, contents, in_range, IsRowOf, AreRowsOf}
 use Rattle.keel_machine.specs.Resuming.{resume_after}
 use Rattle.keel_machine.specs.States.{State, Footing, Known, Unknown, Mode, Leaving, Nothing, Crashed, Left, is_open}
-use Rattle.keel_machine.specs.Turns.{Event, Opening, Admitting, Writing as Makes, Resuming, Flushing, TakingOutcome, Getting, Scanning, Crashing, Turn, after}
+use Rattle.keel_machine.specs.Turns.{Event, Opening, Admitting, Writing as Makes, Resuming, Flushing, TakingOutcome, Getting, Scanning, Crashing, Turn, after, Starting}
 use Rattle.keel_machine.specs.WritingAfter.{write_after}
+use Rattle.keel_machine.specs.declared.answers.Start.{Start}
+use Rattle.keel_machine.specs.Starting.{start_after}
+use Rattle.keel_cli.proofs.Starts.{open_started}
 use Rattle.keel_recovery.specs.Machine.{MayCall, IsCovered, TurnKeeps}
 use Rattle.keel_draft.specs.Drafts.{Draft}
 use Rattle.keel_script.specs.declared.command.Command.{Command}
-use Rattle.keel_script.specs.declared.command.Command.TheVariants.{SetOption, Open, Put, Del, QueuePut, QueueDel, Write, Flush, ResumeStep, Drain, Tick, Get, Scan, Error, Files, Levels, Fail, Capacity, Crash}
+use Rattle.keel_script.specs.declared.command.Command.TheVariants.{SetOption, Open, Put, Del, QueuePut, QueueDel, Write, Flush, Resume, ResumeStep, Drain, Tick, Get, Scan, Error, Files, Levels, Fail, Capacity, Crash}
 use Rattle.keel_script.specs.declared.reply.Reply.{Reply}
 use Rattle.keel_script.specs.declared.reply.Reply.TheVariants as reply
 use Rattle.keel_cli.specs.declared.lines.StopPlace.{StopPlace}
@@ -53,7 +56,7 @@ use Rattle.keel_cli.specs.ReadClaim.{Acked, behind_write, behind_queued, found_t
 use Rattle.keel_cli.specs.Runs.{opening_replies, fault_replies, reading_replies, row_replies, scan_replies, rest_reply, CrashRun, RestsOrCalls, SetRun, Carries, Run}
 use Rattle.keel_cli.specs.Sessions.{Session, Begins, unopened}
 use Rattle.keel_cli.proofs.Flooring.{was_known}
-use Rattle.keel_cli.proofs.Following.{HasLast, HeldBy, Holds, holds_open, open_holds, holds_none, last_seen, last_written, last_queued, last_resumed, last_flushed, crashed_holds, opens}
+use Rattle.keel_cli.proofs.Following.{HasLast, HeldBy, Holds, holds_open, open_holds, holds_none, last_seen, last_written, last_queued, last_resumed, last_begun, last_flushed, crashed_holds, opens}
 use Rattle.keel_cli.proofs.Keeping.{IsKept, admitted, waited, carried, run, stopped}
 use Rattle.keel_cli.proofs.Ledger.{key_of, value_of, FreeOf, lasts_end}
 use Rattle.keel_cli.proofs.Beside.{open_flushed}
@@ -95,6 +98,14 @@ module _ (key : List ℕ) (last : Option Acked) where
     has = λ known.
         subst (HasLast key last) (sym turn.1)
         (last_seen key last (resume_after old drafts made) new.device (last_resumed key last old drafts made (is.has (was_known old new (Resuming drafts held made) turn known))));
+  }
+
+  held_begun : (old new : State) (answer : Start) → Turn old (Starting answer) new → IsHeld key last old → IsHeld key last new
+  held_begun old new answer turn is = record {
+    opened = ap (λ (s : State). is_open s.mode.phase) turn.1 ∙ open_started old answer is.opened;
+    has = λ known.
+        subst (HasLast key last) (sym turn.1)
+        (last_seen key last (start_after old answer) new.device (last_begun key last old answer (is.has (was_known old new (Starting answer) turn known))));
   }
 
   held_flushed : (old new : State) (draft : Draft) (held : Option ℕ) (made : JobStep) → Turn old (Flushing draft held made) new → IsHeld key last old → IsHeld key last new
@@ -414,6 +425,9 @@ store_holds keeps key last options false old new Flush replies opened rests cove
 store_holds keeps key last options true old new ResumeStep replies opened run covered unused holds =
     to_holds key last new (held_resumed key last old new run.drafts None run.step run.turn (from_holds key last old opened holds))
 store_holds keeps key last options false old new ResumeStep replies opened rests covered unused holds = subst (Holds key last) (sym rests.same) holds
+store_holds keeps key last options true old new Resume replies opened run covered unused holds =
+    to_holds key last new (held_begun key last old new run.answer run.turn (from_holds key last old opened holds))
+store_holds keeps key last options false old new Resume replies opened rests covered unused holds = subst (Holds key last) (sym rests.same) holds
 store_holds keeps key last options true old new (Get asked) replies opened run covered unused holds = holds_seen key last old new run.turn.1 holds
 store_holds keeps key last options false old new (Get asked) replies opened rests covered unused holds = subst (Holds key last) (sym rests.same) holds
 store_holds keeps key last options true old new (Scan from to) replies opened run covered unused holds = holds_seen key last old new run.turn.1 holds

@@ -53,11 +53,11 @@ any_right ticket a b holds = list_any-append (λ other. other == ticket) a b ∙
 any_one : (ticket : ℕ) → any ticket (ticket ∷ []) ≡ true
 any_one ticket = rw (eq-eqb ticket ticket refl) refl
 
-told_append : (a b : List (ℕ × Outcome)) → AreTold a → AreTold b → AreTold (a ++ b)
+pub told_append : (a b : List (ℕ × Outcome)) → AreTold a → AreTold b → AreTold (a ++ b)
 told_append [] b first second = second
 told_append (entry ∷ a) b first second = (first.0, told_append a b first.1 second)
 
-told_given : (out : Outcome) (tickets : List ℕ) → IsTold out → AreTold (given out tickets)
+pub told_given : (out : Outcome) (tickets : List ℕ) → IsTold out → AreTold (given out tickets)
 told_given out [] is = tt
 told_given out (ticket ∷ tickets) is = (is, told_given out tickets is)
 

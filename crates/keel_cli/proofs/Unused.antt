@@ -7,7 +7,7 @@ use Rattle.keel_group.specs.Forming.{next_size}
 use Rattle.keel_group.specs.Queue.{Ticketed, tickets_of}
 use Rattle.keel_machine.specs.Admission.{outcome_kept, tickets_of_group}
 use Rattle.keel_machine.specs.States.{State, Group, Slot, Act, CloseLog, MakeLog, SyncDirectory, AddRecords, SyncLog, Writing, left_of, is_open}
-use Rattle.keel_machine.specs.Turns.{Event, Opening, Admitting, Writing as Makes, Resuming, Flushing, TakingOutcome, Getting, Scanning, Listing, TellingError, TellingLevels, Arranging, Crashing, Finishing, Turn, after}
+use Rattle.keel_machine.specs.Turns.{Event, Opening, Admitting, Writing as Makes, Resuming, Flushing, TakingOutcome, Getting, Scanning, Listing, TellingError, TellingLevels, Arranging, Crashing, Starting, Finishing, Turn, after}
 use Rattle.keel_machine.specs.Writing.{ready, started, started_or}
 use Rattle.keel_machine.specs.WritingAfter.{with_made, switched, goes_on, first_done, first_failed, group_done, group_failed, call_done, write_after}
 use Rattle.keel_machine.specs.declared.answers.Admit.{Admit}
@@ -15,7 +15,10 @@ use Rattle.keel_machine.specs.declared.answers.Admit.TheVariants as admit
 use Rattle.keel_machine.specs.declared.answers.Outcome.TheVariants as outcome
 use Rattle.keel_machine.specs.declared.steps.WriteStep.{WriteStep}
 use Rattle.keel_machine.specs.declared.steps.WriteStep.TheVariants as step
+use Rattle.keel_machine.specs.declared.answers.Start.{Start}
+use Rattle.keel_machine.specs.Starting.{start_after}
 use Rattle.keel_recovery.specs.Machine.{MayCall}
+use Rattle.keel_cli.proofs.Starts.{each_start, still_there}
 use Rattle.keel_cli.proofs.Beside.{beside}
 use Rattle.keel_cli.proofs.Flooring.{firm_resumed}
 use Rattle.keel_cli.proofs.Owning.{kept_skip, none_filter, Lacks, given_none}
@@ -135,6 +138,20 @@ module _ (ticket : ℕ) where
   unused_written s (step.Cancelled job current) unused = unused
   unused_written s step.OutOfMemory unused = unused
 
+  -- a resume is asked for, and the tickets of a group that is over get an outcome
+  unused_begun : (s : State) (answer : Start) → IsUnused ticket s → IsUnused ticket (start_after s answer)
+  unused_begun s answer unused =
+      each_start (IsUnused ticket) s answer unused
+      (record { none = unused.none; owned = unused.owned; lacks = unused.lacks })
+      (record { none = unused.none; owned = unused.owned; lacks = tt })
+      (λ failure. record {
+        none =
+            kept_skip ticket s.writing.outcomes (given (outcome.Failed failure) (tickets_of_group s.jobs.write.running)) unused.none
+            ∙ given_none ticket (outcome.Failed failure) (tickets_of_group s.jobs.write.running) unused.lacks;
+        owned = unused.owned;
+        lacks = tt;
+      })
+
   pub unused_seen : (s : State) (device : Seen) → IsUnused ticket s → IsUnused ticket (record s { device = device })
   unused_seen s device unused = record { none = unused.none; owned = unused.owned; lacks = unused.lacks }
 
@@ -198,6 +215,8 @@ answer_unused s (TellingLevels view) device may unused = seen_unused s device un
 answer_unused s (Arranging rule answer) device may unused = seen_unused s device unused
 answer_unused s (Crashing pick (Some count)) device may unused = λ opens. cc
 answer_unused s (Crashing pick None) device may unused = λ opens. cc
+answer_unused s (Starting answer) device may unused = λ opens ticket above.
+    unused_seen ticket (start_after s answer) device (unused_begun ticket s answer (unused may ticket (omega (arith, above, (still_there s answer).last))))
 answer_unused s Finishing device may unused = absurd may
 
 pub keep_unused : (old new : State) (event : Event) → MayCall old event → Turn old event new → AreUnused old → AreUnused new

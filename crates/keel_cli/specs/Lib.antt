@@ -5,6 +5,7 @@ pub mod Writes
 pub mod Boots
 pub mod Flushes
 pub mod Telling
+pub mod Starts
 pub mod Arranging
 pub mod Drains
 pub mod Runs

@@ -22,7 +22,7 @@ use Rattle.keel_machine.specs.States.{State}
 use Rattle.keel_machine.specs.Turns.{Turn, Opening, Getting, Scanning, Listing, Crashing}
 use Rattle.keel_machine.specs.States.{is_open}
 use Rattle.keel_script.specs.declared.command.Command.{Command}
-use Rattle.keel_script.specs.declared.command.Command.TheVariants.{SetOption, Open, Put, Del, QueuePut, QueueDel, Write, Flush, ResumeStep, Drain, Tick, Get, Scan, Error, Files, Levels, Fail, Capacity, Crash}
+use Rattle.keel_script.specs.declared.command.Command.TheVariants.{SetOption, Open, Put, Del, QueuePut, QueueDel, Write, Flush, Resume, ResumeStep, Drain, Tick, Get, Scan, Error, Files, Levels, Fail, Capacity, Crash}
 use Rattle.keel_script.specs.declared.reply.Reply.{Reply}
 use Rattle.keel_script.specs.declared.reply.Reply.TheVariants as reply
 use Rattle.keel_cli.specs.Arranging.{ArrangeRun, ArrangeCut}
@@ -30,6 +30,7 @@ use Rattle.keel_cli.specs.Boots.{BootRun, BootCut}
 use Rattle.keel_cli.specs.Drains.{DrainRun, DrainCut}
 use Rattle.keel_cli.specs.Flushes.{FlushRun, FlushCut}
 use Rattle.keel_cli.specs.Puts.{put_batch, del_batch, PutRun, PutCut, QueueRun, QueueCut}
+use Rattle.keel_cli.specs.Starts.{StartRun}
 use Rattle.keel_cli.specs.Telling.{ErrorRun, LevelsRun}
 use Rattle.keel_cli.specs.Writes.{WriteRun, WriteCut}
 use Rattle.keel_cli.specs.Sessions.{Session, with_store}
@@ -135,6 +136,8 @@ rest_reply true Flush = None
 rest_reply false Flush = Some reply.NotOpen
 rest_reply true ResumeStep = None
 rest_reply false ResumeStep = Some reply.NotOpen
+rest_reply true Resume = None
+rest_reply false Resume = Some reply.NotOpen
 rest_reply true (Scan from to) = None
 rest_reply false (Scan from to) = Some reply.NotOpen
 rest_reply true (Get key) = None
@@ -160,6 +163,7 @@ needs_store (QueueDel client key sync) = true
 needs_store Write = true
 needs_store Flush = true
 needs_store ResumeStep = true
+needs_store Resume = true
 needs_store (Get key) = true
 needs_store (Scan from to) = true
 needs_store (Drain moves) = true
@@ -178,6 +182,7 @@ Calls options old (QueueDel client key sync) replies new = QueueRun old (del_bat
 Calls options old Write replies new = WriteRun old replies new
 Calls options old Flush replies new = FlushRun old replies new
 Calls options old ResumeStep replies new = BootRun old replies new
+Calls options old Resume replies new = StartRun old replies new
 Calls options old (Get key) replies new = GetRun old key replies new
 Calls options old (Scan from to) replies new = ScanRun old from to replies new
 Calls options old (Drain moves) replies new = DrainRun moves old replies new

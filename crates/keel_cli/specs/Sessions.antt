@@ -1,5 +1,5 @@
 -- What a driver has between two commands.
-use Rattle.std.specs.Prelude.{◌≡◌, ℕ, None, [], Option}
+use Rattle.std.specs.Prelude.{false, ◌≡◌, ℕ, None, [], Option}
 use Rattle.keel_base.specs.declared.options.Options.{Options}
 use Rattle.keel_base.specs.Points.{origin}
 use Rattle.keel_base.specs.Options.{AreDefaults, standard}
@@ -30,7 +30,7 @@ unopened footing device = record {
   levels = [];
   writing = record { waiting = []; outcomes = []; last_ticket = 0 };
   failing = record { failures = [] };
-  jobs = record { write = record { number = 0; running = None }; flush = record { number = 0; running = None }; resume = record { number = 0; running = None } };
+  jobs = record { write = record { number = 0; running = None }; flush = record { number = 0; running = None }; resume = record { number = 0; running = None }; started = false };
   numbers = record { next_file = 1; manifest = named_at_opening None 0; in_tables = 0 };
 }
 

@@ -34,6 +34,7 @@ mod failing;
 mod flushing;
 mod lines;
 mod putting;
+mod starting;
 mod stepping;
 mod store;
 mod telling;

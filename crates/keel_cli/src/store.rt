@@ -23,6 +23,7 @@ use crate::draining::drain;
 use crate::failing::{fault_reply, refusal_reply};
 use crate::flushing::flush;
 use crate::putting::{key_batch, pair_batch, put_batch, queue_batch};
+use crate::starting::start;
 use crate::stepping::write;
 use crate::telling::error;
 use keel_base::{Bytes, Listing, Options, OutOfMemory};
@@ -99,6 +100,7 @@ fn rest_reply(is_open: bool, command: &Command) -> Option<Reply>
         | Command::QueueDel { .. }
         | Command::Write
         | Command::Flush
+        | Command::Resume
         | Command::ResumeStep
         | Command::Get { .. }
         | Command::Scan { .. }
@@ -193,6 +195,7 @@ fn answer_on<V: Device>(
         Command::Get { key } => get(alloc, options, core, key),
         Command::Scan { from, to } => scan(alloc, options, core, from, to),
         Command::Error => Ok(Answer::One(error(core))),
+        Command::Resume => Ok(Answer::One(start(core))),
         Command::Levels => Ok(Answer::Levels(core.levels())),
         _ => unreachable!(),
     }

@@ -26,7 +26,7 @@ use Rattle.keel_draft.specs.Drafts.{count_ops}
 use Rattle.keel_core.specs.Flights.{FlightShown, IsPlanned, batches_flying, group_of, running_of, tickets_flying}
 use Rattle.keel_core.specs.Orders.{IsSettled}
 use Rattle.keel_core.specs.Queues.{on_its_way, outcome_told}
-use Rattle.keel_core.specs.Views.{Beyond, BootShown, ToStart, Running, Over, Cleared, CoreView, StandsFor, Fits, IsOnPlan, TakesTurn, is_store_full, stopping_in, state_of, last_in, calls_in, takes_writes}
+use Rattle.keel_core.specs.Views.{Beyond, CoreView, StandsFor, Fits, IsOnPlan, TakesTurn, is_store_full, stopping_in, state_of, last_in, calls_in, has_booted, phase_if}
 use Rattle.keel_core.proofs.Failing.{stopping_same}
 use Rattle.keel_core.proofs.Segmenting.{active_weighs, as_many}
 use Rattle.keel_core.proofs.Standing.{left_is}
@@ -47,7 +47,7 @@ pub listed_goes : (view : CoreView) (device : Seen) (answer : Result (List Entry
     → IsQuiet view.device (disk_fault answer) device → TakesTurn view (Listing answer) (record view { device = device })
 listed_goes view device answer tells order quiet = turns_by_story view (record view { device = device }) (Listing answer) (λ beyond fits. (
   record { tells = tells; order = order; quiet = quiet },
-  record { beyond = beyond; state_is = refl; fits = record { story = fits.story; segments = fits.segments; tables = fits.tables; opened = fits.opened; leads = fits.leads; met = fits.met; handled = fits.handled; flushes = fits.flushes } },
+  record { beyond = beyond; state_is = refl; fits = record { story = fits.story; segments = fits.segments; tables = fits.tables; opened = fits.opened; leads = fits.leads; handled = fits.handled; flushes = fits.flushes } },
 ))
 
 -- ---- a batch is queued
@@ -142,21 +142,21 @@ seq_brought view batch handed_seq = handed_seq + (count_ops (ops_of (batches_fly
 
 -- what the code knows of its numbers, where the boot has cleared
 pub record IsKnown (view : CoreView) (last_seq handed_seq : ℕ) : Type 0 where
-  pub cleared : view.boot ≡ Cleared
+  pub booted : has_booted view.boot ≡ true
   pub last : last_seq ≡ last_in view
   pub handed : handed_seq ≡ last_seq + count_ops view.trail.limbo
 
-refusal_is : (view : CoreView) (boot : BootShown) (batch : Batch) (last_seq handed_seq : ℕ) (beyond : Beyond) → boot ≡ Cleared → Fits (record view { boot = boot }) beyond
+refusal_is : (view : CoreView) (batch : Batch) (last_seq handed_seq : ℕ) (beyond : Beyond) → has_booted view.boot ≡ true → Fits view beyond
     → last_seq ≡ last_in view → handed_seq ≡ last_seq + count_ops view.trail.limbo
-    → refusal (state_of (record view { boot = boot }) beyond) batch ≡ answer_of (tests_of view batch (seq_brought view batch handed_seq))
-refusal_is view Cleared batch last_seq handed_seq beyond cleared fits last handed =
+    → refusal (state_of view beyond) batch ≡ answer_of (tests_of view batch (seq_brought view batch handed_seq))
+refusal_is view batch last_seq handed_seq beyond booted fits last handed =
     let weight = active_weighs beyond.in_tables view.immutable beyond.immutable view.rows beyond.active _ fits.segments in
     let others = as_many beyond.in_tables view.immutable beyond.immutable view.rows beyond.active _ fits.segments in
     let stopping = stopping_same view.options beyond.failures view.handler fits.handled in
-    let seq = seq_is (record view { boot = Cleared }) batch last_seq handed_seq beyond fits last handed in
+    let seq = seq_is view batch last_seq handed_seq beyond fits last handed in
     λ i. answer_of (record {
       size = size_refusal batch;
-      booting = false;
+      booting = machine.is_booting (phase_if (booted i));
       stopping = stopping i;
       sequence = nat_lt (2 ^ 56) (sym seq i);
       ticket = nat_le (2 ^ 56) view.last_ticket;
@@ -166,12 +166,9 @@ refusal_is view Cleared batch last_seq handed_seq beyond cleared fits last hande
       queue = nat_le 64 (length view.waiting);
       waiting = length view.waiting;
     })
-refusal_is view ToStart batch last_seq handed_seq beyond cleared fits last handed = absurd (cc cleared)
-refusal_is view (Running resumption) batch last_seq handed_seq beyond cleared fits last handed = absurd (cc cleared)
-refusal_is view Over batch last_seq handed_seq beyond cleared fits last handed = absurd (cc cleared)
 
 pub same_stands : (view : CoreView) (beyond : Beyond) → Fits view beyond → StandsFor view (state_of view beyond)
-same_stands view beyond fits = record { beyond = beyond; state_is = refl; fits = record { story = fits.story; segments = fits.segments; tables = fits.tables; opened = fits.opened; leads = fits.leads; met = fits.met; handled = fits.handled; flushes = fits.flushes } }
+same_stands view beyond fits = record { beyond = beyond; state_is = refl; fits = record { story = fits.story; segments = fits.segments; tables = fits.tables; opened = fits.opened; leads = fits.leads; handled = fits.handled; flushes = fits.flushes } }
 
 -- a refusal behind the test of the size
 abbrev pub IsRefusal : Admit → Type 0
@@ -196,7 +193,7 @@ refused_turn view batch OutOfMemory beyond refused fits is = absurd refused
 pub refused_goes : (view : CoreView) (batch : Batch) (last_seq handed_seq : ℕ) (answer : Admit) → IsKnown view last_seq handed_seq → IsRefusal answer
     → answer_of (tests_of view batch (seq_brought view batch handed_seq)) ≡ Some answer → TakesTurn view (Admitting batch answer) view
 refused_goes view batch last_seq handed_seq answer known refused is = turns_by_story view view (Admitting batch answer) (λ beyond fits.
-    refused_turn view batch answer beyond refused fits (refusal_is view view.boot batch last_seq handed_seq beyond known.cleared fits known.last known.handed ∙ is))
+    refused_turn view batch answer beyond refused fits (refusal_is view batch last_seq handed_seq beyond known.booted fits known.last known.handed ∙ is))
 
 -- the tests before one say nothing
 pub answers_at : (t u : Tests) (answer : Admit) → t ≡ u → answer_of u ≡ Some answer → answer_of t ≡ Some answer
@@ -270,35 +267,28 @@ queued_goes view batch last_seq handed_seq t enough ticket room few =
     (λ beyond fits. (
       (
         (
-          refusal_is view view.boot batch last_seq handed_seq beyond t.known.cleared fits t.known.last t.known.handed
+          refusal_is view batch last_seq handed_seq beyond t.known.booted fits t.known.last t.known.handed
               ∙ ap answer_of (calm_same view batch _ false false false false t.sized t.calm (not_lt (2 ^ 56) _ enough) (not_le (2 ^ 56) view.last_ticket ticket) room (not_le 64 (length view.waiting) few)),
           refl,
         ),
         refl,
       ),
-      record { beyond = beyond; state_is = refl; fits = record { story = fits.story; segments = fits.segments; tables = fits.tables; opened = fits.opened; leads = fits.leads; met = fits.met; handled = fits.handled; flushes = fits.flushes } },
+      record { beyond = beyond; state_is = refl; fits = record { story = fits.story; segments = fits.segments; tables = fits.tables; opened = fits.opened; leads = fits.leads; handled = fits.handled; flushes = fits.flushes } },
     ))
 
 -- a store that boots takes none
-boots_first : (size : Option Admit) (rest : List (Option Admit)) → size ≡ None → first_some (size ∷ Some Booting ∷ rest) ≡ Some Booting
-boots_first size rest none = ap (λ (o : Option Admit). first_some (o ∷ Some Booting ∷ rest)) none
+boots_first : (size booting : Option Admit) (rest : List (Option Admit)) → size ≡ None → booting ≡ Some Booting → first_some (size ∷ booting ∷ rest) ≡ Some Booting
+boots_first size booting rest none boots = λ i. first_some (none i ∷ boots i ∷ rest)
 
-booting_is : (view : CoreView) (boot : BootShown) (batch : Batch) (beyond : Beyond) → takes_writes boot ≡ false → size_refusal batch ≡ None
-    → refusal (state_of (record view { boot = boot }) beyond) batch ≡ Some Booting
-booting_is view Cleared batch beyond boots sized = absurd (cc boots)
-booting_is view ToStart batch beyond boots sized = boots_first (size_refusal batch) _ sized
-booting_is view (Running resumption) batch beyond boots sized = boots_first (size_refusal batch) _ sized
-booting_is view Over batch beyond boots sized = boots_first (size_refusal batch) _ sized
+booting_is : (view : CoreView) (batch : Batch) (beyond : Beyond) → has_booted view.boot ≡ false → size_refusal batch ≡ None
+    → refusal (state_of view beyond) batch ≡ Some Booting
+booting_is view batch beyond boots sized =
+    boots_first (size_refusal batch) (when (machine.is_booting (phase_if (has_booted view.boot))) Booting) _ sized
+    (ap (λ (b : Bool). when (machine.is_booting (phase_if b)) Booting) boots)
 
-pub boots_goes : (view : CoreView) (batch : Batch) → takes_writes view.boot ≡ false → size_refusal batch ≡ None → TakesTurn view (Admitting batch Booting) view
+pub boots_goes : (view : CoreView) (batch : Batch) → has_booted view.boot ≡ false → size_refusal batch ≡ None → TakesTurn view (Admitting batch Booting) view
 boots_goes view batch boots sized = turns_by_story view view (Admitting batch Booting) (λ beyond fits.
-    refused_turn view batch Booting beyond tt fits (booting_is view view.boot batch beyond boots sized))
-
-pub is_clear : (boot : BootShown) → takes_writes boot ≡ true → boot ≡ Cleared
-is_clear Cleared is = refl
-is_clear ToStart is = absurd (cc is)
-is_clear (Running resumption) is = absurd (cc is)
-is_clear Over is = absurd (cc is)
+    refused_turn view batch Booting beyond tt fits (booting_is view batch beyond boots sized))
 
 -- ---- an outcome is taken
 
@@ -314,7 +304,7 @@ taken_goes view ticket told is =
         is ∙ ap (λ b. unwrap_or (outcome_kept ticket view.outcomes) (if b then outcome.Waiting else outcome.Unknown)) (same_way ticket view.group view.waiting),
         refl,
       ),
-      record { beyond = beyond; state_is = refl; fits = record { story = fits.story; segments = fits.segments; tables = fits.tables; opened = fits.opened; leads = fits.leads; met = fits.met; handled = fits.handled; flushes = fits.flushes } },
+      record { beyond = beyond; state_is = refl; fits = record { story = fits.story; segments = fits.segments; tables = fits.tables; opened = fits.opened; leads = fits.leads; handled = fits.handled; flushes = fits.flushes } },
     ))
 
 kept_settled : (ticket : ℕ) (outcomes : List (ℕ × Outcome)) → AllByRecursion (λ (entry : ℕ × Outcome). IsSettled entry.1) outcomes

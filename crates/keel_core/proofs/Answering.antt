@@ -65,6 +65,6 @@ scanned_goes view from to device tables front result scanned ranges is scans sam
             (scan_fault result) says)
             borne (says_behind view beyond tables Says fits reads borne))
             quiet,
-        record { beyond = beyond; state_is = refl; fits = record { story = fits.story; segments = fits.segments; tables = same ∙ fits.tables; opened = opened_behind view beyond tables Says fits reads borne; leads = leads_behind view.boot view.levels tables same fits.leads; met = fits.met; handled = fits.handled; flushes = fits.flushes } },
+        record { beyond = beyond; state_is = refl; fits = record { story = fits.story; segments = fits.segments; tables = same ∙ fits.tables; opened = opened_behind view beyond tables Says fits reads borne; leads = leads_behind view.boot view.levels tables same fits.leads; handled = fits.handled; flushes = fits.flushes } },
       ));
 }

@@ -1,21 +1,26 @@
 -- The tables of segments' rows are those of their batches.
-use Rattle.std.proofs.Common.{◌≡◌, ◌≢◌, Option, ℕ, ◌+◌, List, [], ◌∷◌, ◌++◌, length, refl, sym, ap, subst, ◌∙◌, arith, append_assoc, append-nil}
+use Rattle.std.proofs.Common.{◌≡◌, ◌≢◌, Option, ℕ, ◌+◌, ◌≤◌, List, [], ◌∷◌, ◌++◌, length, refl, sym, ap, subst, ◌∙◌, arith, append_assoc, append-nil}
 use Rattle.std.proofs.lemmas.List.{length-append, length-map}
+use Rattle.std.proofs.lemmas.List.Sums.{sum_by-cons}
+use Rattle.std.specs.List.{AllByRecursion}
 use Rattle.keel_base.specs.declared.op.Op.{Op}
 use Rattle.keel_base.specs.declared.op.Op.TheVariants.{Put, Del}
 use Rattle.keel_base.specs.declared.row.Row.{Row}
 use Rattle.keel_base.specs.Rows.{op_row, op_rows}
-use Rattle.keel_machine.specs.Resuming.{batches_in}
+use Rattle.keel_machine.specs.Resuming.{HasBatch, batches_in}
 use Rattle.keel_machine.specs.States.{Segment}
-use Rattle.keel_mem.specs.Totals.{least_seq, greatest_seq, weight_of}
+use Rattle.keel_machine.specs.WritingAfter.{numbers_of}
+use Rattle.keel_resume.specs.Jobs.{Covers, JobState}
+use Rattle.keel_core.proofs.Segmenting.{closed_some}
+use Rattle.keel_mem.specs.Totals.{least_seq, greatest_seq, row_bytes, weight_of}
 use Rattle.keel_draft.specs.Drafts.{AreDraftsOf, AreNewestOf, Draft, IsDraftOf, IsTableFor, batch_rows, count_ops, rows_in}
 use Rattle.keel_resume.specs.Plans.{Job, job_of}
 use Rattle.keel_edit.specs.declared.edit.Added.{Added}
 use Rattle.keel_levels.specs.declared.live.LiveTable.{LiveTable}
 use Rattle.keel_core.specs.Tables.{IsOf, lives_of}
 use Rattle.keel_core.proofs.Unopened.{entries_shown}
-use Rattle.keel_core.specs.Covering.{AreTablesFor}
-use Rattle.keel_core.specs.Views.{AreSegments, FullSegment}
+use Rattle.keel_core.specs.Covering.{AreNewTables, AreTablesFor, AreTablesOfFull, closed_full, taken_over}
+use Rattle.keel_core.specs.Views.{AreSegments, CoreView, FullSegment}
 
 -- rows that are numbered one by one from a number on
 AreNumbered : ℕ → List Row → Type 0
@@ -84,6 +89,20 @@ drafts_are seq [] (segment ∷ segments) rows active last drafts h t = absurd h
 drafts_are seq (full ∷ fulls) [] rows active last drafts h t = absurd h
 drafts_are seq (full ∷ fulls) (segment ∷ segments) rows active last [] h t = absurd t
 
+-- each segment with a table has a batch
+has_batch : (seq : ℕ) (rows : List Row) (batches : List (List Op)) → rows ≡ batch_rows seq batches → rows ≢ [] → 1 ≤ length batches
+has_batch seq rows [] is some = absurd (some is)
+has_batch seq rows (ops ∷ batches) is some = omega arith
+
+pub have_batches : (seq : ℕ) (fulls : List FullSegment) (segments : List Segment) (rows : List Row) (active : List (List Op)) (last : ℕ) (drafts : List Draft)
+    → AreSegments seq fulls segments rows active last → AreTablesFor fulls drafts → AllByRecursion HasBatch segments
+have_batches seq [] [] rows active last drafts h t = tt
+have_batches seq (full ∷ fulls) (segment ∷ segments) rows active last (draft ∷ drafts) h t =
+    (has_batch (seq + 1) full.rows segment.batches h.1 t.0, have_batches (seq + count_ops segment.batches) fulls segments rows active last drafts h.2 t.2)
+have_batches seq [] (segment ∷ segments) rows active last drafts h t = absurd h
+have_batches seq (full ∷ fulls) [] rows active last drafts h t = absurd h
+have_batches seq (full ∷ fulls) (segment ∷ segments) rows active last [] h t = absurd t
+
 -- ---- the tables of the first segments
 
 -- with tables for the others the drafts are tables for all
@@ -102,6 +121,55 @@ covers_all all left drafts none h =
 pub has_rows : (rows : List Row) (weight : ℕ) → weight ≡ weight_of rows → (weight ≡ 0 → ⊥) → rows ≢ []
 has_rows rows weight is some none = some (is ∙ ap weight_of none)
 
+pub job_goes : (job behind : Job) (tables : List Added) (last : ℕ) (draft : Draft) → behind ≡ record job { drafts = job.drafts ++ draft ∷ [] } → job ≡ job_of tables last job.drafts
+    → behind ≡ job_of tables last behind.drafts
+job_goes job behind tables last draft is h =
+    is ∙ ap (λ (j : Job). record j { drafts = job.drafts ++ draft ∷ [] }) h ∙ ap (job_of tables last) (sym (ap (λ (j : Job). j.drafts) is))
+
+-- with the table of what follows they are tables for all
+pub covers_more : (fulls : List FullSegment) (drafts : List Draft) (full : FullSegment) (draft : Draft) → AreTablesFor fulls drafts → full.rows ≢ [] → IsTableFor full.rows draft
+    → AreTablesFor (fulls ++ full ∷ []) (drafts ++ draft ∷ [])
+covers_more [] [] full draft t some is = (some, is, tt)
+covers_more (first ∷ fulls) (other ∷ drafts) full draft t some is = (t.0, t.1, covers_more fulls drafts full draft t.2 some is)
+covers_more [] (other ∷ drafts) full draft t some is = absurd t
+covers_more (first ∷ fulls) [] full draft t some is = absurd t
+
+-- without a row the active segment leaves nothing
+pub nothing_taken : (view : CoreView) → view.rows ≡ [] → (taken_over view).immutable ≡ view.immutable
+nothing_taken view none = ap (λ (r : List Row). view.immutable ++ closed_full r (numbers_of view.log)) none ∙ append-nil view.immutable
+
+pub no_rows : (rows : List Row) → weight_of rows ≡ 0 → rows ≡ []
+no_rows [] none = refl
+no_rows (row ∷ rows) none = absurd (omega (arith, none, sum_by-cons (λ (r : Row). 16 + row_bytes r) row rows))
+
+-- a job for the full segments alone, where there is no row in the active one
+pub job_of_none : (view : CoreView) (state : JobState) → view.rows ≡ [] → AreTablesOfFull view state → AreNewTables (taken_over view) (record { steps = 0; job = state.job })
+job_of_none view state none h = record {
+  drafts = state.job.drafts;
+  are = subst (λ (l : List FullSegment). AreTablesFor l state.job.drafts) (sym (nothing_taken view none)) h.are;
+  few = h.few;
+  steps = refl;
+  job = h.job;
+}
+
+-- and with the table of its rows
+pub job_of_more : (view : CoreView) (before state : JobState) → view.rows ≢ [] → AreTablesOfFull view before → Covers view.rows before state → AreNewTables (taken_over view) (record { steps = 0; job = state.job })
+job_of_more view before state some h k =
+    let drafts = ap (λ (s : JobState). s.job.drafts) k.after_is in
+    let live = ap (λ (s : JobState). length s.job.live) k.after_is in
+    let known = ap (λ (j : Job). length j.live) h.job in
+    let many = length-map view.levels (λ (t : LiveTable). t.entry) in
+    let few = k.few in
+    record {
+      drafts = state.job.drafts;
+      are = subst (λ (l : List Draft). AreTablesFor (taken_over view).immutable l) (sym drafts)
+          (subst (λ (l : List FullSegment). AreTablesFor (view.immutable ++ l) (before.job.drafts ++ k.draft ∷ [])) (sym (closed_some view.rows (numbers_of view.log) some))
+          (covers_more view.immutable before.job.drafts (record { rows = view.rows; logs = numbers_of view.log }) k.draft h.are some k.is));
+      few = omega (arith, few, live, known, many);
+      steps = refl;
+      job = job_goes before.job state.job _ _ k.draft (ap (λ (s : JobState). s.job) k.after_is) h.job;
+    }
+
 -- ---- the job that is to make them
 
 pub begin_covers : (all : List FullSegment) (drafts : List Draft) → drafts ≡ [] → CoversTo all all drafts
@@ -110,11 +178,6 @@ begin_covers all drafts none = λ more tables. subst (λ (l : List Draft). AreTa
 pub job_begins : (job : Job) (live tables : List Added) (seq last : ℕ) → job ≡ job_of live seq [] → live ≡ tables → seq ≡ last → job ≡ job_of tables last job.drafts
 job_begins job live tables seq last is same number =
     is ∙ (λ i. job_of (same i) (number i) (sym (ap (λ (j : Job). j.drafts) is) i))
-
-pub job_goes : (job behind : Job) (tables : List Added) (last : ℕ) (draft : Draft) → behind ≡ record job { drafts = job.drafts ++ draft ∷ [] } → job ≡ job_of tables last job.drafts
-    → behind ≡ job_of tables last behind.drafts
-job_goes job behind tables last draft is h =
-    is ∙ ap (λ (j : Job). record j { drafts = job.drafts ++ draft ∷ [] }) h ∙ ap (job_of tables last) (sym (ap (λ (j : Job). j.drafts) is))
 
 pub entries_many : (live : Option (List LiveTable)) (entries : List Added) → IsOf live entries → length (lives_of live entries) ≡ length entries
 entries_many live entries same =

@@ -1,5 +1,5 @@
 -- What a step of the job leaves is what the machine has.
-use Rattle.std.proofs.Common.{◌≡◌, ℕ, ◌+◌, List, [], ◌∷◌, Option, Some, None, refl, sym, subst}
+use Rattle.std.proofs.Common.{◌≡◌, ℕ, ◌+◌, Bool, List, [], ◌∷◌, Option, Some, None, refl, sym, subst}
 use Rattle.std.specs.Prelude.{IsSome}
 use Rattle.std.specs.List.{flat_map}
 use Rattle.keel_base.specs.declared.failure.Call.{Call}
@@ -13,7 +13,7 @@ use Rattle.keel_resume.specs.Jobs.{IsFailure, IsLast, IsMove, Point}
 use Rattle.keel_resume.specs.Plans.{failure_of, Act, MakeTable, AddPiece, SyncTable, MakeLog, SyncLogName, Rolls, Job, Progress, handed, job_of, left_of, moved, table_acts}
 use Rattle.keel_core.specs.Plans.{IsOnWay, MakesLog}
 use Rattle.keel_core.specs.Resuming.{MakesCall, cleared, with_boot}
-use Rattle.keel_core.specs.Views.{CoreView, Over, Running}
+use Rattle.keel_core.specs.Views.{CoreView, Running, resting}
 use Rattle.keel_core.proofs.BootSteps as steps
 
 -- ---- on the way
@@ -68,42 +68,42 @@ begins_on_way job drafts live last is = subst IsOnWay (sym is) (record {
 abbrev pub at : Point → CoreView → CoreView
 at point view = record view { device = point.seen; next_file = point.next; manifest = point.manifest }
 
-module _ (view : CoreView) (number made : ℕ) (before later : Point) where
+module _ (view : CoreView) (number : ℕ) (booted : Bool) (made : ℕ) (before later : Point) where
   abbrev pub runs : Resumption
   runs = record { steps = made; job = before.state.job }
 
   abbrev pub old : CoreView
-  old = with_boot number runs (at before view)
+  old = with_boot number booted runs (at before view)
 
   pub moved_goes : (call : Call) → IsMove call before later
       → MakesCall old before.state.job.drafts (step.Moved number call)
-      (record (at later view) { boot = Running (record { steps = made + 1; job = later.state.job }); boot_job = number })
+      (record (at later view) { boot = Running booted (record { steps = made + 1; job = later.state.job }); boot_job = number })
   moved_goes call m =
       subst (λ (v : CoreView). MakesCall old before.state.job.drafts (step.Moved number call) v)
       (λ i. record view {
         device = later.seen;
-        boot = Running (record { steps = made + 1; job = sym m.made.job_is i });
+        boot = Running booted (record { steps = made + 1; job = sym m.made.job_is i });
         boot_job = number;
         next_file = sym m.made.next_is i;
         manifest = sym m.made.manifest_is i;
       })
-      (subst (λ (c : Call). MakesCall old before.state.job.drafts (step.Moved number c) (steps.view_moved (at before view) number runs later.seen m.act (m.another ∷ m.later) m.made.next)) (sym m.call_is)
-      (steps.moves (at before view) number runs later.seen m.act (m.another ∷ m.later) m.made.next m.another m.later refl m.made.calls))
+      (subst (λ (c : Call). MakesCall old before.state.job.drafts (step.Moved number c) (steps.view_moved (at before view) number booted runs later.seen m.act (m.another ∷ m.later) m.made.next)) (sym m.call_is)
+      (steps.moves (at before view) number booted runs later.seen m.act (m.another ∷ m.later) m.made.next m.another m.later refl m.made.calls))
 
   pub failed_goes : (failure : Failure) → IsFailure failure before later
-      → MakesCall old before.state.job.drafts (step.Failed failure) (record (at later view) { boot = Over; boot_job = number; handler = noted failure view.handler })
+      → MakesCall old before.state.job.drafts (step.Failed failure) (record (at later view) { boot = resting booted; boot_job = number; handler = noted failure view.handler })
   failed_goes failure m =
-      subst (λ (f : Failure). MakesCall old before.state.job.drafts (step.Failed f) (record (at later view) { boot = Over; boot_job = number; handler = noted f view.handler })) (sym m.failure_is)
+      subst (λ (f : Failure). MakesCall old before.state.job.drafts (step.Failed f) (record (at later view) { boot = resting booted; boot_job = number; handler = noted f view.handler })) (sym m.failure_is)
       (subst (λ (v : CoreView). MakesCall old before.state.job.drafts (step.Failed (failure_of m.act m.fault)) v)
       (λ i. record view {
         device = later.seen;
-        boot = Over;
+        boot = resting booted;
         boot_job = number;
         handler = noted (failure_of m.act m.fault) view.handler;
         next_file = sym m.next_is i;
         manifest = sym m.manifest_is i;
       })
-      (steps.fails (at before view) number runs later.seen m.act m.later m.next m.fault m.calls))
+      (steps.fails (at before view) number booted runs later.seen m.act m.later m.next m.fault m.calls))
 
   pub cleared_goes : IsLast before later
       → MakesCall old before.state.job.drafts (step.Cleared number (made + 1)) (cleared later.state.job (record (at later view) { boot_job = number }))
@@ -115,4 +115,4 @@ module _ (view : CoreView) (number made : ℕ) (before later : Point) where
         next_file = sym m.made.next_is i;
         manifest = sym m.made.manifest_is i;
       }))
-      (steps.clears (at before view) number runs later.seen m.act [] m.made.next refl m.made.calls)
+      (steps.clears (at before view) number booted runs later.seen m.act [] m.made.next refl m.made.calls)

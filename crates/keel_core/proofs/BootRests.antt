@@ -1,7 +1,6 @@
 -- A resume step that rests, and want of memory.
-use Rattle.std.proofs.Common.{◌≡◌, ◌≢◌, ℕ, ◌^◌, ◌&&◌, ◌==◌, not, length, nat_le, Bool, true, false, List, [], ◌∷◌, Option, Some, None, refl, sym, ap, arith, subst, ◌∙◌, option_map}
+use Rattle.std.proofs.Common.{◌≡◌, ℕ, ◌^◌, ◌&&◌, not, nat_le, Bool, true, false, List, [], ◌∷◌, Option, Some, None, refl, sym, ap, subst, ◌∙◌, option_map}
 use Rattle.keel_base.specs.declared.failure.Counter.TheVariants.{FileNumber, JobNumber}
-use Rattle.keel_base.specs.declared.failure.Failure.{Failure}
 use Rattle.keel_disk.specs.Seen.{IsQuiet, Seen}
 use Rattle.keel_edit.specs.declared.edit.Added.{Added}
 use Rattle.keel_machine.specs.declared.steps.ResumeStep.{ResumeStep}
@@ -17,8 +16,10 @@ use Rattle.keel_draft.specs.Drafts.{Draft}
 use Rattle.keel_resume.specs.Jobs as jobs
 use Rattle.keel_resume.specs.Plans.{Act, job_of, left_of}
 use Rattle.keel_core.specs.Resuming.{IsRest, ResumesTurn, boot_rest_of}
-use Rattle.keel_core.specs.Views.{Beyond, BootShown, ToStart, Running, Over, Cleared, CoreView, IsMet, StandsFor, state_of}
+use Rattle.keel_core.specs.Views.{Beyond, BootShown, ToStart, Started, Running, Cleared, CoreView, Fits, StandsFor, state_of, stopping_in}
+use Rattle.keel_core.proofs.Failing.{stopping_same}
 use Rattle.keel_core.proofs.Resting.{quiet_in, same_state}
+use Rattle.std.specs.Prelude.{is_some}
 
 pub same_draws : (acts : List Act) → machine.draws_next acts ≡ jobs.draws_next acts
 same_draws [] = refl
@@ -28,11 +29,12 @@ pub begins_drawing : (live : List Added) (last : ℕ) (drafts : List Draft) → 
 begins_drawing live last [] = refl
 begins_drawing live last (draft ∷ drafts) = refl
 
-nested : (c j f : Option ResumeStep) → first_some (c ∷ first_some (None ∷ j ∷ []) ∷ f ∷ []) ≡ first_some (c ∷ first_some (j ∷ f ∷ []) ∷ [])
-nested (Some c) j f = refl
-nested None (Some j) f = refl
-nested None None (Some f) = refl
-nested None None None = refl
+nested : (c i j f : Option ResumeStep) → first_some (c ∷ first_some (i ∷ j ∷ []) ∷ f ∷ []) ≡ first_some (c ∷ first_some (i ∷ j ∷ f ∷ []) ∷ [])
+nested (Some c) i j f = refl
+nested None (Some i) j f = refl
+nested None None (Some j) f = refl
+nested None None None (Some f) = refl
+nested None None None None = refl
 
 alone : (c f : Option ResumeStep) → first_some (c ∷ None ∷ f ∷ []) ≡ first_some (c ∷ first_some (f ∷ []) ∷ [])
 alone (Some c) f = refl
@@ -43,28 +45,36 @@ idle : (c f : Option ResumeStep) → first_some (c ∷ Some step.Idle ∷ f ∷ 
 idle (Some c) f = refl
 idle None f = refl
 
-none_there : (n : ℕ) → n ≢ 0 → (n == 0) ≡ false
-none_there n some =
-    elim (n == 0) as (λ v. (n == 0) ≡ v → v ≡ false) [ true ↦ λ e. absurd (some (grind (arith, e))) | false ↦ λ e. refl ] refl
+twice : (b : Bool) → not (not b) ≡ b
+twice true = refl
+twice false = refl
 
-same_rest : (view : CoreView) (boot : BootShown) (beyond : Beyond) (drafts : List Draft) (held : Option ℕ) → IsMet boot beyond.failures
+abbrev cancels : CoreView → Option ℕ → Option ResumeStep
+cancels view held = option_map (λ (job : ℕ). step.Cancelled job view.boot_job) (differing held view.boot_job)
+
+abbrev file_gone : CoreView → Bool → Option ResumeStep
+file_gone view draws = when (draws && nat_le (2 ^ 56) view.next_file) (step.Spent FileNumber)
+
+same_rest : (view : CoreView) (boot : BootShown) (beyond : Beyond) (drafts : List Draft) (held : Option ℕ) → Fits (record view { boot = boot }) beyond
     → resume_rest (state_of (record view { boot = boot }) beyond) drafts held ≡ boot_rest_of (record view { boot = boot }) held
-same_rest view ToStart beyond drafts held met =
+same_rest view ToStart beyond drafts held fits =
     let s : State = state_of (record view { boot = ToStart }) beyond in
-    let c = option_map (λ (job : ℕ). step.Cancelled job view.boot_job) (differing held view.boot_job) in
-    ap (λ (l : List Failure). resume_rest (state_of (record view { boot = ToStart }) (record beyond { failures = l })) drafts held) met
-    ∙ ap (λ (b : Bool). first_some (c ∷ first_some (None ∷ when (nat_le (2 ^ 56) view.boot_job) (step.Spent JobNumber) ∷ []) ∷ when (b && nat_le (2 ^ 56) view.next_file) (step.Spent FileNumber) ∷ [])) (begins_drawing (entries_in beyond.levels) (last_seq s) drafts)
-    ∙ nested c _ _
-same_rest view (Running running) beyond drafts held met =
-    ap (λ (b : Bool). first_some (option_map (λ (job : ℕ). step.Cancelled job view.boot_job) (differing held view.boot_job) ∷ None ∷ when (b && nat_le (2 ^ 56) view.next_file) (step.Spent FileNumber) ∷ [])) (same_draws (left_of running.job))
+    let stops = stopping_same view.options beyond.failures view.handler fits.handled in
+    let spent = when (nat_le (2 ^ 56) view.boot_job) (step.Spent JobNumber) in
+    (λ i. first_some (cancels view held ∷ first_some (when (not (not (is_some (stops i)))) step.Idle ∷ spent ∷ []) ∷ file_gone view (begins_drawing (entries_in beyond.levels) (last_seq s) drafts i) ∷ []))
+    ∙ ap (λ (b : Bool). first_some (cancels view held ∷ first_some (when b step.Idle ∷ spent ∷ []) ∷ file_gone view true ∷ [])) (twice (is_some (stopping_in view)))
+    ∙ nested (cancels view held) _ spent _
+same_rest view (Started booted) beyond drafts held fits =
+    let s : State = state_of (record view { boot = Started booted }) beyond in
+    ap (λ (b : Bool). first_some (cancels view held ∷ None ∷ file_gone view b ∷ [])) (begins_drawing (entries_in beyond.levels) (last_seq s) drafts)
+    ∙ alone (cancels view held) (file_gone view true)
+same_rest view (Running booted running) beyond drafts held fits =
+    ap (λ (b : Bool). first_some (cancels view held ∷ None ∷ file_gone view b ∷ [])) (same_draws (left_of running.job))
     ∙ alone _ _
-same_rest view Over beyond drafts held met =
-    ap (λ (b : Bool). first_some (option_map (λ (job : ℕ). step.Cancelled job view.boot_job) (differing held view.boot_job) ∷ first_some (when (not b) step.Idle ∷ when (nat_le (2 ^ 56) view.boot_job) (step.Spent JobNumber) ∷ []) ∷ when (machine.is_file_spent (machine.resume_ready drafts (state_of (record view { boot = Over }) beyond))) (step.Spent FileNumber) ∷ [])) (none_there (length beyond.failures) met)
-    ∙ idle _ _
-same_rest view Cleared beyond drafts held met = idle _ _
+same_rest view Cleared beyond drafts held fits = idle _ _
 
 pub boot_rest_same : (view : CoreView) (s : State) (drafts : List Draft) (held : Option ℕ) → StandsFor view s → resume_rest s drafts held ≡ boot_rest_of view held
-boot_rest_same view s drafts held stands = ap (λ (t : State). resume_rest t drafts held) stands.state_is ∙ same_rest view view.boot stands.beyond drafts held stands.fits.met
+boot_rest_same view s drafts held stands = ap (λ (t : State). resume_rest t drafts held) stands.state_is ∙ same_rest view view.boot stands.beyond drafts held stands.fits
 
 rest_turns : (view : CoreView) (made : ResumeStep) (s : State) (held : Option ℕ) → IsRest made → StandsFor view s → resume_rest s [] held ≡ Some made
     → Answers s (turns.Resuming [] held made) view.device × StandsFor view (after s (turns.Resuming [] held made) view.device)
@@ -92,7 +102,7 @@ boot_wants view device held none quiet = record {
       record {
         beyond = stands.beyond;
         state_is = ap (λ (t : State). record t { device = device }) stands.state_is;
-        fits = record { story = stands.fits.story; segments = stands.fits.segments; tables = stands.fits.tables; opened = stands.fits.opened; leads = stands.fits.leads; met = stands.fits.met; handled = stands.fits.handled; flushes = stands.fits.flushes };
+        fits = record { story = stands.fits.story; segments = stands.fits.segments; tables = stands.fits.tables; opened = stands.fits.opened; leads = stands.fits.leads; handled = stands.fits.handled; flushes = stands.fits.flushes };
       },
     );
   };

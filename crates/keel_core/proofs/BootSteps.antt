@@ -1,6 +1,5 @@
--- A call of the boot is a step of the machine, over plain values.
-use Rattle.std.proofs.Common.{◌≡◌, ◌≢◌, ℕ, ◌+◌, ◌==◌, not, cond, Bool, true, false, List, [], ◌∷◌, ◌++◌, length, filter, Option, Some, None, Ok, Err, refl, sym, ap, subst, ◌∙◌, arith, add-zero}
-use Rattle.keel_base.specs.declared.failure.Failure.{Failure}
+-- A call of the job is a step of the machine, over plain values.
+use Rattle.std.proofs.Common.{◌≡◌, ℕ, ◌+◌, ◌==◌, not, cond, Bool, true, false, List, [], ◌∷◌, ◌++◌, filter, Option, Some, None, Ok, Err, refl, sym, ap, subst, ◌∙◌, add-zero}
 use Rattle.keel_base.specs.declared.failure.Fault.{Fault}
 use Rattle.keel_directory.specs.TableFiles.{TableFile}
 use Rattle.keel_disk.specs.declared.error.DiskError.TheVariants as error
@@ -12,12 +11,12 @@ use Rattle.keel_machine.specs.Outside.{as_answer}
 use Rattle.keel_machine.specs.Resuming as machine
 use Rattle.keel_machine.specs.Resuming.{AreDrafts, cleared_story, made_in, resume_rest}
 use Rattle.keel_machine.specs.States as states
-use Rattle.keel_machine.specs.States.{State, Footing, Known, Unknown, Resumption, entries_in, new_log}
+use Rattle.keel_machine.specs.States.{State, Footing, Known, Unknown, Phase, Resumption, Segment, entries_in, new_log}
 use Rattle.keel_machine.specs.Reads.{WhereKnown}
 use Rattle.keel_machine.specs.Turns.{Answers, after}
 use Rattle.keel_machine.specs.Turns as turns
-use Rattle.std.proofs.lemmas.List.{length-append}
 use Rattle.keel_flush.specs.Plans.{Job as FlushJob}
+use Rattle.keel_levels.specs.declared.live.LiveTable.{LiveTable}
 use Rattle.keel_levels.specs.Live.{AreOpened}
 use Rattle.keel_draft.specs.Drafts.{Draft, added_of, file_of, numbered, with_new}
 use Rattle.keel_resume.specs.Jobs.{manifest_behind, manifest_tried, tables_of}
@@ -25,7 +24,7 @@ use Rattle.keel_resume.specs.Plans.{Act, Job, call_of, change_of, failure_of, le
 use Rattle.keel_core.specs.Failing.{noted}
 use Rattle.keel_core.specs.Resuming.{MakesCall, cleared, with_boot}
 use Rattle.keel_core.specs.Tables.{unopened}
-use Rattle.keel_core.specs.Views.{Beyond, Running, Over, Cleared, CoreView, Fits, IsFlushing, StandsFor, last_in, state_of}
+use Rattle.keel_core.specs.Views.{Beyond, BootShown, Running, Cleared, CoreView, Fits, IsFlushing, IsLeading, StandsFor, is_started, last_in, phase_if, phase_of, resting, resumption_of, state_of}
 use Rattle.keel_core.proofs.Failing.{handler_cleared, handler_noted}
 use Rattle.keel_core.proofs.Stories.{cleared_on, last_same}
 use Rattle.keel_core.proofs.Unopened.{none_opened, tables_unopened}
@@ -79,19 +78,37 @@ pub opened_new : (footing : Footing) (entries : List Added) (files : List TableF
 opened_new Known entries files is = none_opened entries files is
 opened_new Unknown entries files is = tt
 
-some_met : (failures : List Failure) (failure : Failure) → length (failures ++ failure ∷ []) ≢ 0
-some_met failures failure none =
-    let size = length-append failures (failure ∷ []) in
-    absurd (omega (arith, size, none))
-
 flush_cleared : (flush : Option FlushJob) (seq : ℕ) → flush ≡ None → IsFlushing Cleared flush seq []
 flush_cleared flush seq none = subst (λ (f : Option FlushJob). IsFlushing Cleared f seq []) (sym none) tt
 
--- ---- a call of the boot that runs
+-- ---- none is under way
 
-module _ (view : CoreView) (number : ℕ) (running : Resumption) (told : Seen) (act : Act) (later : List Act) (left : left_of running.job ≡ act ∷ later) where
+-- what a state has of it
+pub record Shows : Type 0 where
+  pub phase : Phase
+  pub running : Option Resumption
+  pub started : Bool
+
+abbrev shows : BootShown → Shows
+shows boot = record { phase = phase_of boot; running = resumption_of boot; started = is_started boot }
+
+rests_in : (booted : Bool) → record { phase = phase_if booted; running = None; started = false } ≡ shows (resting booted)
+rests_in true = refl
+rests_in false = refl
+
+leads_none : (booted : Bool) (levels : List LiveTable) → IsLeading (resting booted) levels
+leads_none true levels = tt
+leads_none false levels = tt
+
+flush_none : (booted : Bool) (flush : Option FlushJob) (seq : ℕ) (segments : List Segment) → flush ≡ None → IsFlushing (resting booted) flush seq segments
+flush_none true flush seq segments none = subst (λ (f : Option FlushJob). IsFlushing Cleared f seq segments) (sym none) tt
+flush_none false flush seq segments none = none
+
+-- ---- a call of the job that runs
+
+module _ (view : CoreView) (number : ℕ) (booted : Bool) (running : Resumption) (told : Seen) (act : Act) (later : List Act) (left : left_of running.job ≡ act ∷ later) where
   abbrev before : CoreView
-  before = with_boot number running view
+  before = with_boot number booted running view
 
   abbrev drafts : List Draft
   drafts = running.job.drafts
@@ -116,7 +133,7 @@ module _ (view : CoreView) (number : ℕ) (running : Resumption) (told : Seen) (
 
   -- it has others before it
   abbrev pub view_moved : CoreView
-  view_moved = record before { device = told; boot = Running (record { steps = running.steps + 1; job = behind }); next_file = next; manifest = manifest_behind act running.job view.next_file view.manifest }
+  view_moved = record before { device = told; boot = Running booted (record { steps = running.steps + 1; job = behind }); next_file = next; manifest = manifest_behind act running.job view.next_file view.manifest }
 
   pub moves : (another : Act) (rest : List Act) → later ≡ another ∷ rest → Calls view.device (change_of running.job view.next_file act) (Ok tt) told
       → MakesCall before drafts (step.Moved number (call_of act)) view_moved
@@ -133,7 +150,7 @@ module _ (view : CoreView) (number : ℕ) (running : Resumption) (told : Seen) (
     record {
       beyond = beyond;
       state_is = done_is beyond ∙ ap (λ (l : List Act). states.with_device told (machine.act_done act running l (state_of before beyond))) is;
-      fits = record { story = fits.story; segments = fits.segments; tables = fits.tables; opened = fits.opened; leads = fits.leads; met = fits.met; handled = fits.handled; flushes = fits.flushes };
+      fits = record { story = fits.story; segments = fits.segments; tables = fits.tables; opened = fits.opened; leads = fits.leads; handled = fits.handled; flushes = fits.flushes };
     },
   ))
 
@@ -141,7 +158,7 @@ module _ (view : CoreView) (number : ℕ) (running : Resumption) (told : Seen) (
   abbrev pub view_failed : Fault → CoreView
   view_failed fault = record before {
     device = told;
-    boot = Over;
+    boot = resting booted;
     handler = noted (failure_of act fault) view.handler;
     next_file = next;
     manifest = manifest_tried act running.job view.next_file view.manifest;
@@ -160,8 +177,18 @@ module _ (view : CoreView) (number : ℕ) (running : Resumption) (told : Seen) (
     },
     record {
       beyond = record beyond { failures = beyond.failures ++ failure_of act fault ∷ [] };
-      state_is = ap (λ (l : List Act). states.with_device told (machine.first_failed running.job l (failure_of act fault) (state_of before beyond))) left;
-      fits = record { story = fits.story; segments = fits.segments; tables = fits.tables; opened = fits.opened; leads = tt; met = some_met beyond.failures (failure_of act fault); handled = handler_noted view.options beyond.failures view.handler (failure_of act fault) fits.handled; flushes = fits.flushes };
+      state_is =
+          ap (λ (l : List Act). states.with_device told (machine.first_failed running.job l (failure_of act fault) (state_of before beyond))) left
+          ∙ ap (λ (shown : Shows). record (state_of (view_failed fault) (record beyond { failures = beyond.failures ++ failure_of act fault ∷ [] })) {
+            mode = record { phase = shown.phase; left = beyond.left };
+            jobs = record {
+              write = (state_of before beyond).jobs.write;
+              flush = (state_of before beyond).jobs.flush;
+              resume = record { number = number; running = shown.running };
+              started = shown.started;
+            };
+          }) (rests_in booted);
+      fits = record { story = fits.story; segments = fits.segments; tables = fits.tables; opened = fits.opened; leads = leads_none booted view.levels; handled = handler_noted view.options beyond.failures view.handler (failure_of act fault) fits.handled; flushes = flush_none booted view.flush beyond.in_tables beyond.immutable fits.flushes };
     },
   ))
 
@@ -192,11 +219,10 @@ module _ (view : CoreView) (number : ℕ) (running : Resumption) (told : Seen) (
               }) last;
           fits = record {
             story = cleared_on view.trail beyond.story fits.story;
-            segments = (refl, add-zero (last_in view));
+            segments = (refl, add-zero (last_in view), tt);
             tables = tables_unopened (tables_of behind) ∙ sym entries;
             opened = opened_new beyond.footing (tables_of behind) levels entries;
             leads = tt;
-            met = tt;
             handled = handler_cleared view.options beyond.failures view.handler fits.handled;
             flushes = flush_cleared view.flush (last_in view) fits.flushes;
           };

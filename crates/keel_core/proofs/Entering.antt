@@ -15,20 +15,19 @@ use Rattle.keel_machine.specs.States as machine
 use Rattle.keel_machine.specs.States.{left_of}
 use Rattle.keel_core.specs.declared.flight.Act.{Act}
 use Rattle.keel_core.specs.declared.flight.Act.TheVariants.{CloseLog, MakeLog, SyncDirectory, AddRecords, SyncLog}
-use Rattle.keel_core.specs.declared.log.OwnLog.{OwnLog}
 use Rattle.keel_core.specs.declared.queue.Queue.{Queue}
 use Rattle.keel_core.specs.declared.trail.Trail.{Trail}
 use Rattle.keel_core.specs.Flights.{FlightShown, IsPlanned, act_of, batches_flying, flying, group_of, is_synced, later_than, next_flying, tickets_flying}
 use Rattle.keel_core.specs.Orders.{IsInOrder}
 use Rattle.keel_core.specs.Queues.{first_act, next_flight}
 use Rattle.keel_core.specs.Steps.{IsMade, IsRefused, NextIs, added_step, done, done_step, formed, handed_over, stopped, tried}
-use Rattle.keel_core.specs.Views.{BootShown, CanGoOn, Cleared, CoreView, ComesNearer, IsOnPlan, calls_left, is_full}
+use Rattle.keel_core.specs.Views.{CanGoOn, Cleared, CoreView, ComesNearer, HaveOps, IsOnPlan, calls_left, is_full}
 use Rattle.keel_core.proofs.Forming.{IsCall, next_some}
 use Rattle.keel_mem.specs.Shown.{MemShown}
 use Rattle.keel_core.specs.Placing.{bytes_needed}
 use Rattle.keel_core.proofs.Lists.{count_ops-append}
 use Rattle.keel_core.proofs.Rooms.{bytes_needed-append}
-use Rattle.keel_core.proofs.Ordering.{still_cleared}
+use Rattle.keel_core.proofs.Segmenting.{have_ops}
 use Rattle.keel_core.proofs.Standing.{IsInFlight, left_is}
 use Rattle.keel_core.proofs.Stories.{ops_of-append}
 
@@ -76,10 +75,10 @@ pub record IsEntered (old new : Queue) (switches : Bool) : Type 0 where
   pub each : EachIsAdmissible (next_batches old.waiting.items)
   pub few : next_size old.waiting.items ≤ 64
 
-pub entered_in_order : (mem : MemShown) (trail : Trail) (old new : Queue) (switches : Bool) (segments : ℕ) (boot : BootShown) (log : Option OwnLog) (last_seq handed_seq next_file : ℕ)
-    → IsInOrder mem trail old segments boot log last_seq handed_seq next_file → boot ≡ Cleared → IsEntered old new switches → old.job < 2 ^ 56
-    → IsInOrder mem trail new segments boot log last_seq handed_seq next_file
-entered_in_order mem trail old new switches segments boot log last_seq handed_seq next_file order cleared q below =
+pub entered_in_order : (mem : MemShown) (trail : Trail) (old new : Queue) (switches : Bool) (segments : ℕ) (last_seq handed_seq next_file : ℕ)
+    → IsInOrder mem trail old segments last_seq handed_seq next_file → IsEntered old new switches → old.job < 2 ^ 56
+    → IsInOrder mem trail new segments last_seq handed_seq next_file
+entered_in_order mem trail old new switches segments last_seq handed_seq next_file order q below =
     let same = are_same old.waiting.items in
     let waiting = q.waiting in
     let group = q.group in
@@ -90,8 +89,6 @@ entered_in_order mem trail old new switches segments boot log last_seq handed_se
     let no_batches = ap (λ (g : Option FlightShown). length (batches_flying g)) none in
     let no_tickets = ap (λ (g : Option FlightShown). length (tickets_flying g)) none in
     record {
-      still = still_cleared boot new.waiting.items (flying new.group) cleared;
-      logged = order.logged;
       seq = order.seq;
       handed = order.handed;
       enough = rw (group, waiting) (omega (arith, order.enough, same.ops, no_ops));
@@ -114,23 +111,28 @@ entered_in_order mem trail old new switches segments boot log last_seq handed_se
     }
 
 -- the group that was formed is in flight
-pub formed_flies : (view : CoreView) → view.boot ≡ Cleared → IsInFlight (formed view) (first_act (is_full view))
-formed_flies view cleared = record { cleared = cleared; on_plan = planned_first (is_full view) _; next = refl }
+pub formed_flies : (view : CoreView) → view.boot ≡ Cleared → HaveOps view.trail.limbo → EachIsAdmissible (next_batches view.waiting) → IsInFlight (formed view) (first_act (is_full view))
+formed_flies view cleared limbo each = record { cleared = cleared; on_plan = planned_first (is_full view) _; next = refl; some = (limbo, have_ops (next_batches view.waiting) each) }
+
+-- those that wait still wait behind the call
+pub each_next : (old now : CoreView) → now.waiting ≡ old.waiting → EachIsAdmissible (next_batches now.waiting) → EachIsAdmissible (next_batches old.waiting)
+each_next old now same each = subst (λ (l : List Ticketed). EachIsAdmissible (next_batches l)) same each
 
 first_is : (view : CoreView) (group : Option FlightShown) (act : Act) → group ≡ None → NextIs act view group → act ≡ first_act (is_full view)
 first_is view None act none next = next
 first_is view (Some flight) act none next = absurd (cc none)
 
-pub first_flies : (view : CoreView) (act : Act) → view.boot ≡ Cleared → view.group ≡ None → NextIs act view view.group → IsInFlight (formed view) act
-first_flies view act cleared none next = subst (IsInFlight (formed view)) (sym (first_is view view.group act none next)) (formed_flies view cleared)
+pub first_flies : (view : CoreView) (act : Act) → view.boot ≡ Cleared → view.group ≡ None → NextIs act view view.group → HaveOps view.trail.limbo → EachIsAdmissible (next_batches view.waiting)
+    → IsInFlight (formed view) act
+first_flies view act cleared none next limbo each = subst (IsInFlight (formed view)) (sym (first_is view view.group act none next)) (formed_flies view cleared limbo each)
 
 -- the next act is that of the group in flight
 pub next_flies : (view : CoreView) (group : Option FlightShown) (act : Act) → IsSome group → NextIs act view group → next_flying group ≡ Some act
 next_flies view None act some next = absurd cc
 next_flies view (Some flight) act some next = ap Some (sym next)
 
-pub flies_on : (view : CoreView) (act : Act) → CanGoOn view → IsSome view.group → NextIs act view view.group → IsInFlight view act
-flies_on view act can some next = record { cleared = can.cleared; on_plan = can.on_plan; next = next_flies view view.group act some next }
+pub flies_on : (view : CoreView) (act : Act) → CanGoOn view → IsSome view.group → NextIs act view view.group → HaveOps view.trail.limbo → HaveOps (ops_of (batches_flying view.group)) → IsInFlight view act
+flies_on view act can some next limbo flying = record { cleared = can.cleared; on_plan = can.on_plan; next = next_flies view view.group act some next; some = (limbo, flying) }
 
 -- ---- nearer to the end
 

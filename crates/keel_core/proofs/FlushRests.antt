@@ -19,7 +19,7 @@ use Rattle.keel_machine.specs.Tests.{first_some, when, differing}
 use Rattle.keel_machine.specs.Turns.{Answers, after}
 use Rattle.keel_machine.specs.Turns as turns
 use Rattle.keel_core.specs.Flushes.{FlushesTurn, IsRest, flush_rest_of, may_flush}
-use Rattle.keel_core.specs.Views.{Beyond, BootShown, ToStart, Running, Over, Cleared, CoreView, Fits, IsHandlerOf, StandsFor, phase_of, state_of, takes_writes}
+use Rattle.keel_core.specs.Views.{Beyond, CoreView, Fits, IsHandlerOf, StandsFor, has_booted, phase_if, state_of}
 use Rattle.keel_core.proofs.Resting.{quiet_in, same_state}
 use Rattle.keel_core.proofs.Segmenting.{as_many}
 
@@ -34,21 +34,19 @@ off_is : (auto given_up : Bool) → given_up ≡ false → not auto ≡ (not aut
 off_is true given_up none = sym none
 off_is false given_up none = refl
 
-stopped_by : (options : Options) (failures : List Failure) (handler : HandlerState) → IsHandlerOf options failures handler
+pub stopped_by : (options : Options) (failures : List Failure) (handler : HandlerState) → IsHandlerOf options failures handler
     → (is_some (stopping_of options.paranoid failures) || (is_some (standing_of options.paranoid failures) && not options.auto)) ≡ stops_work handler
 stopped_by options failures handler h =
     (λ i. is_some (where_severe (sym h.paranoid i) (sym h.standing i)) || (is_some (sym h.standing i) && not (sym h.auto i)))
     ∙ (λ i. severe_stops handler.paranoid handler.standing i || (is_some handler.standing && off_is handler.auto handler.given_up h.on i))
 
-writes_same : (boot : BootShown) → machine.writes (phase_of boot) ≡ takes_writes boot
-writes_same Cleared = refl
-writes_same ToStart = refl
-writes_same (Running resumption) = refl
-writes_same Over = refl
+writes_if : (booted : Bool) → machine.writes (phase_if booted) ≡ booted
+writes_if true = refl
+writes_if false = refl
 
 may_same : (view : CoreView) (beyond : Beyond) → Fits view beyond → machine.may_flush (state_of view beyond) ≡ may_flush view
 may_same view beyond fits = λ i.
-    writes_same view.boot i
+    writes_if (has_booted view.boot) i
     && (not (stopped_by view.options beyond.failures view.handler fits.handled i)
     && nat_le 1 (as_many beyond.in_tables view.immutable beyond.immutable view.rows beyond.active _ fits.segments i))
 
@@ -145,7 +143,6 @@ flush_wants view device held none quiet = record {
           tables = stands.fits.tables;
           opened = stands.fits.opened;
           leads = stands.fits.leads;
-          met = stands.fits.met;
           handled = stands.fits.handled;
           flushes = stands.fits.flushes;
         };

@@ -166,7 +166,6 @@ module _ (view : CoreView) (draft : Draft) (is : IsTableOfFirst view.immutable d
           tables = fits.tables;
           opened = fits.opened;
           leads = fits.leads;
-          met = fits.met;
           handled = fits.handled;
           flushes = (first_of beyond fits).ends;
         };

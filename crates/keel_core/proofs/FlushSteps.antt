@@ -88,7 +88,6 @@ module _ (view : CoreView) (number : ℕ) (job : Job) (told : Seen) (act : Act) 
         tables = fits.tables;
         opened = fits.opened;
         leads = fits.leads;
-        met = fits.met;
         handled = fits.handled;
         flushes = fits.flushes;
       };
@@ -125,7 +124,6 @@ module _ (view : CoreView) (number : ℕ) (job : Job) (told : Seen) (act : Act) 
         tables = fits.tables;
         opened = fits.opened;
         leads = fits.leads;
-        met = tt;
         handled = handler_noted view.options beyond.failures view.handler (failure_of act fault) fits.handled;
         flushes = tt;
       };
@@ -161,7 +159,6 @@ module _ (view : CoreView) (number : ℕ) (job : Job) (told : Seen) (act : Act) 
             tables = tables_unopened tables ∙ sym entries;
             opened = opened_new beyond.footing tables levels entries;
             leads = tt;
-            met = tt;
             handled = fits.handled;
             flushes = tt;
           };

@@ -157,7 +157,7 @@ module _ (view : CoreView) (first : Ticketed) (rest : List Ticketed) where
   from_formed made new is step_goes beyond held fits none =
       let s : State = state_of before_group beyond in
       let r : State = state_of in_group beyond in
-      let stood : StandsFor in_group r = record { beyond = beyond; state_is = refl; fits = record { story = fits.story; segments = fits.segments; tables = fits.tables; opened = fits.opened; leads = fits.leads; met = fits.met; handled = fits.handled; flushes = fits.flushes } } in
+      let stood : StandsFor in_group r = record { beyond = beyond; state_is = refl; fits = record { story = fits.story; segments = fits.segments; tables = fits.tables; opened = fits.opened; leads = fits.leads; handled = fits.handled; flushes = fits.flushes } } in
       let flight = next_flight queue (is_full view) in
       let rests : write_rest r None ≡ None =
       ap (λ (b : Bool). first_some (None ∷ first_some (when b (step.Spent FileNumber) ∷ []) ∷ []))

@@ -23,7 +23,7 @@ use Rattle.keel_table.specs.declared.fault.TableFault.{TableFault}
 use Rattle.keel_table.specs.declared.fault.TableFault.TheVariants as fault
 use Rattle.keel_table.specs.Answers.{fault_in as fault_of}
 use Rattle.keel_core.specs.Gets.{IsGot, IsGotOf, else_of, fault_got, latest}
-use Rattle.keel_core.specs.Views.{Beyond, BootShown, Cleared, CoreView, Fits, IsLeading, Over, Running, StandsFor, ToStart, TakesRead, last_in, state_of}
+use Rattle.keel_core.specs.Views.{Beyond, BootShown, Cleared, CoreView, Fits, IsLeading, Running, Started, StandsFor, ToStart, TakesRead, last_in, state_of}
 use Rattle.keel_core.proofs.Calling.{quiet_same}
 use Rattle.keel_core.proofs.Latest.{newest_of_all}
 
@@ -109,7 +109,7 @@ held_goes view key found got finds says =
             got_answers (state_of view beyond) key (value_left (Some f.row)) got view.device (says f.row f.shows)
                 (where_known beyond.footing (λ (bears : BearsOut (state_of view beyond)). contents_of view beyond key fits bears ∙ ap (λ (o : Option Row). value_left (else_of o (newest key (level_rows beyond.levels)))) f.is) borne)
                 (quiet_same view.device),
-            record { beyond = beyond; state_is = refl; fits = record { story = fits.story; segments = fits.segments; tables = fits.tables; opened = fits.opened; leads = fits.leads; met = fits.met; handled = fits.handled; flushes = fits.flushes } },
+            record { beyond = beyond; state_is = refl; fits = record { story = fits.story; segments = fits.segments; tables = fits.tables; opened = fits.opened; leads = fits.leads; handled = fits.handled; flushes = fits.flushes } },
           ));
     }
 
@@ -127,8 +127,8 @@ opened_behind view beyond tables Says fits reads borne =
 
 pub leads_behind : (boot : BootShown) (old new : List LiveTable) → tables_of new ≡ tables_of old → IsLeading boot old → IsLeading boot new
 leads_behind ToStart old new same leads = tt
-leads_behind (Running resumption) old new same leads = leads ∙ sym same
-leads_behind Over old new same leads = tt
+leads_behind (Running booted resumption) old new same leads = leads ∙ sym same
+leads_behind (Started booted) old new same leads = tt
 leads_behind Cleared old new same leads = tt
 
 pub says_behind : (view : CoreView) (beyond : Beyond) (tables : List LiveTable) (Says : List TableFile → Type 0) → Fits view beyond
@@ -166,6 +166,6 @@ stored_goes view key device tables result got none is reads same quiet = record 
             (table_fault result) says)
             borne (says_behind view beyond tables Says fits reads borne))
             quiet,
-        record { beyond = beyond; state_is = refl; fits = record { story = fits.story; segments = fits.segments; tables = same ∙ fits.tables; opened = opened_behind view beyond tables Says fits reads borne; leads = leads_behind view.boot view.levels tables same fits.leads; met = fits.met; handled = fits.handled; flushes = fits.flushes } },
+        record { beyond = beyond; state_is = refl; fits = record { story = fits.story; segments = fits.segments; tables = same ∙ fits.tables; opened = opened_behind view beyond tables Says fits reads borne; leads = leads_behind view.boot view.levels tables same fits.leads; handled = fits.handled; flushes = fits.flushes } },
       ));
 }

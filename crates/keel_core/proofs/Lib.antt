@@ -31,3 +31,5 @@ pub mod FlushRests
 pub mod FlushSteps
 pub mod FlushStarts
 pub mod Tellings
+pub mod StartTests
+pub mod Closings

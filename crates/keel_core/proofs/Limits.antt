@@ -166,6 +166,6 @@ bad_size_goes view batch answer is =
       record {
         beyond = beyond;
         state_is = ap (with_device view.device) (same_behind s batch answer bad);
-        fits = record { story = fits.story; segments = fits.segments; tables = fits.tables; opened = fits.opened; leads = fits.leads; met = fits.met; handled = fits.handled; flushes = fits.flushes };
+        fits = record { story = fits.story; segments = fits.segments; tables = fits.tables; opened = fits.opened; leads = fits.leads; handled = fits.handled; flushes = fits.flushes };
       },
     ))

@@ -184,8 +184,8 @@ story_on true s point last h same seq = record {
 
 segments_on : (seq last : ℕ) (batches : List Replayed) (logs : List ℕ) → seq + count_ops (ops_replayed batches) ≡ last
     → AreSegments seq (replayed_full seq batches logs) (replayed_segments (ops_replayed batches) logs) [] [] last
-segments_on seq last [] logs is = (refl, is)
-segments_on seq last (b ∷ bs) logs is = (refl, refl, (refl, omega (arith, is)))
+segments_on seq last [] logs is = (refl, is, tt)
+segments_on seq last (b ∷ bs) logs is = (refl, refl, (refl, omega (arith, is), tt))
 
 opened_on : (footing : Footing) (lives : List LiveTable) (files : List TableFile) → AreOpened lives files → WhereKnown footing (AreOpened lives files)
 opened_on Known lives files h = h
@@ -240,7 +240,6 @@ module _ (options : Options) (store : StoreFound) (lives : List LiveTable) (tabl
             tables = tables ∙ sym entries;
             opened = opened_on s.footing lives found.levels (opened found.levels entries);
             leads = tt;
-            met = refl;
             handled = record { paranoid = refl; auto = refl; on = refl; standing = refl };
             flushes = refl;
           };

@@ -3,7 +3,7 @@ use Rattle.std.proofs.Common.{◌≡◌, ℕ, ◌+◌, ◌<◌, ◌≤◌, ◌^�
 use Rattle.std.proofs.lemmas.List.{length-append}
 use Rattle.std.proofs.lemmas.List.Elements.{All-nil, All-append}
 use Rattle.std.specs.List.{AllByRecursion}
-use Rattle.std.specs.Prelude.{All, IsSome}
+use Rattle.std.specs.Prelude.{All}
 use Rattle.keel_base.specs.declared.op.Batch.{Batch}
 use Rattle.keel_base.specs.declared.op.Op.{Op}
 use Rattle.keel_base.specs.declared.row.Row.{Row}
@@ -14,17 +14,16 @@ use Rattle.keel_machine.specs.declared.answers.Outcome.{Outcome}
 use Rattle.keel_machine.specs.Admission.{ops_of}
 use Rattle.keel_draft.specs.Drafts.{batch_rows, count_ops}
 use Rattle.keel_machine.specs.WritingAfter.{done_each, seq_behind}
-use Rattle.keel_core.specs.declared.log.OwnLog.{OwnLog}
 use Rattle.keel_core.specs.declared.queue.Queue.{Queue}
 use Rattle.keel_core.specs.declared.trail.Trail.{Trail}
 use Rattle.keel_core.specs.declared.flight.Act.{Act}
 use Rattle.keel_core.specs.declared.flight.Act.TheVariants.{AddRecords}
 use Rattle.keel_core.specs.Flights.{FlightShown, batches_flying, flying, gone_to, tickets_flying, without_batches}
-use Rattle.keel_core.specs.Orders.{IsInOrder, IsLogged, IsSettled}
+use Rattle.keel_core.specs.Orders.{IsInOrder, IsSettled}
 use Rattle.keel_core.specs.Queues.{given}
 use Rattle.keel_core.specs.Steps.{all_published}
 use Rattle.keel_core.specs.Trails.{TrailShown, handed, limbo_in, published, seq_in, shown}
-use Rattle.keel_core.specs.Views.{BootShown, ToStart, Running, Over, Cleared, CoreView, IsOnPlan, IsStill, last_in}
+use Rattle.keel_core.specs.Views.{CoreView, IsOnPlan, last_in}
 use Rattle.keel_mem.specs.Shown.{MemShown}
 use Rattle.keel_core.specs.Placing.{bytes_needed}
 use Rattle.keel_core.proofs.Lists.{count_ops-append}
@@ -54,29 +53,6 @@ pub done_settled : (seq : ℕ) (tickets : List ℕ) (batches : List (List Op)) �
 done_settled seq [] batches = tt
 done_settled seq (ticket ∷ tickets) batches = (tt, done_settled (seq_behind seq batches) tickets (drop 1 batches))
 
--- ---- before a store takes writes nothing waits
-
-still_none : (boot : BootShown) (waiting : List Ticketed) (group : Option FlightShown) → IsStill boot waiting group → IsStill boot waiting None
-still_none Cleared waiting group still = tt
-still_none ToStart waiting group still = (still.0, refl)
-still_none (Running resumption) waiting group still = (still.0, refl)
-still_none Over waiting group still = (still.0, refl)
-
-still_without : (boot : BootShown) (waiting : List Ticketed) (group : Option FlightShown) → IsStill boot waiting group → IsStill boot waiting (without_batches group)
-still_without Cleared waiting group still = tt
-still_without ToStart waiting group still = (still.0, ap without_batches still.1)
-still_without (Running resumption) waiting group still = (still.0, ap without_batches still.1)
-still_without Over waiting group still = (still.0, ap without_batches still.1)
-
-still_empty : (boot : BootShown) (waiting : List Ticketed) (group : Option FlightShown) → IsStill boot waiting group → IsStill boot [] group
-still_empty Cleared waiting group still = tt
-still_empty ToStart waiting group still = (refl, still.1)
-still_empty (Running resumption) waiting group still = (refl, still.1)
-still_empty Over waiting group still = (refl, still.1)
-
-pub still_cleared : (boot : BootShown) (waiting : List Ticketed) (group : Option FlightShown) → boot ≡ Cleared → IsStill boot waiting group
-still_cleared boot waiting group is = subst (λ (b : BootShown). IsStill b waiting group) (sym is) tt
-
 staged_without : (group : Option FlightShown) → IsOnPlan group → IsOnPlan (without_batches group)
 staged_without None staged = tt
 staged_without (Some flight) staged = staged
@@ -93,15 +69,14 @@ pub record IsOver (old new : Queue) (outcomes : List (ℕ × Outcome)) : Type 0 
   pub ticket : new.last_ticket ≡ old.last_ticket
   pub job : new.job ≡ old.job
 
-pub over_in_order : (mem : MemShown) (trail : Trail) (old new : Queue) (segments : ℕ) (boot : BootShown) (log : Option OwnLog) (last_seq handed_seq next_file : ℕ) (outcomes : List (ℕ × Outcome))
-    → IsInOrder mem trail old segments boot log last_seq handed_seq next_file → IsOver old new outcomes → AllSettled outcomes
-    → IsInOrder mem trail new segments boot log last_seq handed_seq next_file
-over_in_order mem trail old new segments boot log last_seq handed_seq next_file outcomes order q settled =
-    let waiting = q.waiting in
-    let group = q.group in
+pub cancelled_in_order : (mem : MemShown) (trail : Trail) (old new : Queue) (segments : ℕ) (last_seq handed_seq next_file : ℕ) (outcomes : List (ℕ × Outcome))
+    → IsInOrder mem trail old segments last_seq handed_seq next_file
+    → new.waiting.items ≡ old.waiting.items → new.group ≡ None → new.outcomes.items ≡ old.outcomes.items ++ outcomes
+    → vec_len new.outcomes ≡ vec_len old.outcomes + length (tickets_flying (flying old.group)) → vec_capacity new.outcomes ≡ vec_capacity old.outcomes
+    → new.last_ticket ≡ old.last_ticket → new.job ≤ 2 ^ 56 → AllSettled outcomes
+    → IsInOrder mem trail new segments last_seq handed_seq next_file
+cancelled_in_order mem trail old new segments last_seq handed_seq next_file outcomes order waiting group added len room ticket job settled =
     record {
-      still = rw (group, waiting) (still_none boot old.waiting.items (flying old.group) order.still);
-      logged = order.logged;
       seq = order.seq;
       handed = order.handed;
       enough = rw (group, waiting) (omega (arith, order.enough));
@@ -109,15 +84,21 @@ over_in_order mem trail old new segments boot log last_seq handed_seq next_file 
       group = rw group (All-nil _);
       few = rw group (omega arith);
       staged = rw group tt;
-      settled = rw q.added (all_settled-append old.outcomes.items outcomes order.settled settled);
+      settled = rw added (all_settled-append old.outcomes.items outcomes order.settled settled);
       held = rw (group, waiting) (over_held mem (shown trail) (flying old.group) old.waiting.items order.held);
       trail_room = rw (group, waiting) (omega (arith, order.trail_room));
-      outcome_room = rw (group, waiting) (omega (arith, order.outcome_room, q.len, q.room));
-      job = omega (arith, order.job, q.job);
-      ticket = omega (arith, order.ticket, q.ticket);
+      outcome_room = rw (group, waiting) (omega (arith, order.outcome_room, len, room));
+      job = job;
+      ticket = omega (arith, order.ticket, ticket);
       few_segments = order.few_segments;
       file = order.file;
     }
+
+pub over_in_order : (mem : MemShown) (trail : Trail) (old new : Queue) (segments : ℕ) (last_seq handed_seq next_file : ℕ) (outcomes : List (ℕ × Outcome))
+    → IsInOrder mem trail old segments last_seq handed_seq next_file → IsOver old new outcomes → AllSettled outcomes
+    → IsInOrder mem trail new segments last_seq handed_seq next_file
+over_in_order mem trail old new segments last_seq handed_seq next_file outcomes order q settled =
+    cancelled_in_order mem trail old new segments last_seq handed_seq next_file outcomes order q.waiting q.group q.added q.len q.room q.ticket (omega (arith, order.job, q.job)) settled
 
 -- ---- batches are handed over
 
@@ -144,11 +125,11 @@ same_tickets : (group : Option FlightShown) → tickets_flying (without_batches 
 same_tickets None = refl
 same_tickets (Some group) = refl
 
-pub handed_in_order : (mem : MemShown) (trail behind : Trail) (old new : Queue) (segments : ℕ) (boot : BootShown) (log : Option OwnLog) (last_seq handed_seq next_file more : ℕ) (batches : List Batch)
-    → IsInOrder mem trail old segments boot log last_seq handed_seq next_file → IsTakenFrom old new → batches ≡ batches_flying (flying old.group) → more ≡ count_ops (ops_of batches)
+pub handed_in_order : (mem : MemShown) (trail behind : Trail) (old new : Queue) (segments : ℕ) (last_seq handed_seq next_file more : ℕ) (batches : List Batch)
+    → IsInOrder mem trail old segments last_seq handed_seq next_file → IsTakenFrom old new → batches ≡ batches_flying (flying old.group) → more ≡ count_ops (ops_of batches)
     → IsHanded trail behind batches
-    → IsInOrder mem behind new segments boot log last_seq (handed_seq + more) next_file
-handed_in_order mem trail behind old new segments boot log last_seq handed_seq next_file more batches order q taken more_is h =
+    → IsInOrder mem behind new segments last_seq (handed_seq + more) next_file
+handed_in_order mem trail behind old new segments last_seq handed_seq next_file more batches order q taken more_is h =
     let waiting = q.waiting in
     let group = q.group in
     let none = none_left (flying old.group) in
@@ -157,8 +138,6 @@ handed_in_order mem trail behind old new segments boot log last_seq handed_seq n
     let size = ap length taken in
     let now = ap (λ (t : TrailShown). count_ops t.limbo) h.shows ∙ count_ops-append (shown trail).limbo (ops_of batches) in
     record {
-      still = rw (group, waiting) (still_without boot old.waiting.items (flying old.group) order.still);
-      logged = order.logged;
       seq = order.seq ∙ ap (λ (t : TrailShown). seq_in t) (sym h.shows);
       handed = omega (arith, order.handed, more_is, now);
       enough = rw (group, none, waiting) (omega (arith, order.enough, more_is, ops));
@@ -196,15 +175,13 @@ pub record IsPublished (sync : Bool) (trail behind : Trail) : Type 0 where
   pub room : vec_capacity behind.batches ≡ vec_capacity trail.batches
 
 -- what was in limbo was published, and the group is over
-pub published_in_order : (mem more_mem : MemShown) (trail behind : Trail) (old new : Queue) (segments : ℕ) (boot : BootShown) (log : Option OwnLog) (last_seq handed_seq next_file : ℕ) (sync : Bool) (outcomes : List (ℕ × Outcome))
-    → IsInOrder mem trail old segments boot log last_seq handed_seq next_file → IsOver old new outcomes → AllSettled outcomes → IsPublished sync trail behind
+pub published_in_order : (mem more_mem : MemShown) (trail behind : Trail) (old new : Queue) (segments : ℕ) (last_seq handed_seq next_file : ℕ) (sync : Bool) (outcomes : List (ℕ × Outcome))
+    → IsInOrder mem trail old segments last_seq handed_seq next_file → IsOver old new outcomes → AllSettled outcomes → IsPublished sync trail behind
     → ArePlaced mem more_mem (shown trail)
-    → IsInOrder more_mem behind new segments boot log handed_seq handed_seq next_file
-published_in_order mem more_mem trail behind old new segments boot log last_seq handed_seq next_file sync outcomes order q settled t placed =
-    let over = over_in_order mem trail old new segments boot log last_seq handed_seq next_file outcomes order q settled in
+    → IsInOrder more_mem behind new segments handed_seq handed_seq next_file
+published_in_order mem more_mem trail behind old new segments last_seq handed_seq next_file sync outcomes order q settled t placed =
+    let over = over_in_order mem trail old new segments last_seq handed_seq next_file outcomes order q settled in
     record {
-      still = over.still;
-      logged = over.logged;
       seq = seq_published (shown trail) sync last_seq handed_seq order.seq order.handed ∙ ap (λ (s : TrailShown). seq_in s) (sym t.shows);
       handed = subst (λ (s : TrailShown). handed_seq ≡ handed_seq + count_ops s.limbo) (sym t.shows) (sym (add-zero handed_seq));
       enough = over.enough;
@@ -240,14 +217,12 @@ published_view sync view trail rows waiting group outcomes last_ticket job last 
 
 -- ---- an outcome was taken
 
-pub taken_in_order : (mem : MemShown) (trail : Trail) (old new : Queue) (segments : ℕ) (boot : BootShown) (log : Option OwnLog) (last_seq handed_seq next_file ticket : ℕ)
-    → IsInOrder mem trail old segments boot log last_seq handed_seq next_file → new.waiting.items ≡ old.waiting.items → new.group ≡ old.group
+pub taken_in_order : (mem : MemShown) (trail : Trail) (old new : Queue) (segments : ℕ) (last_seq handed_seq next_file ticket : ℕ)
+    → IsInOrder mem trail old segments last_seq handed_seq next_file → new.waiting.items ≡ old.waiting.items → new.group ≡ old.group
     → new.outcomes.items ≡ filter (λ entry. not (entry.0 == ticket)) old.outcomes.items → vec_len new.outcomes ≤ vec_len old.outcomes
     → vec_capacity new.outcomes ≡ vec_capacity old.outcomes → new.last_ticket ≡ old.last_ticket → new.job ≡ old.job
-    → IsInOrder mem trail new segments boot log last_seq handed_seq next_file
-taken_in_order mem trail old new segments boot log last_seq handed_seq next_file ticket order waiting group outcomes len room last job = record {
-  still = rw (group, waiting) order.still;
-  logged = order.logged;
+    → IsInOrder mem trail new segments last_seq handed_seq next_file
+taken_in_order mem trail old new segments last_seq handed_seq next_file ticket order waiting group outcomes len room last job = record {
   seq = order.seq;
   handed = order.handed;
   limbo = order.limbo;
@@ -267,14 +242,12 @@ taken_in_order mem trail old new segments boot log last_seq handed_seq next_file
 
 -- ---- those that wait were turned away
 
-pub turned_in_order : (mem : MemShown) (trail : Trail) (old new : Queue) (segments : ℕ) (boot : BootShown) (log : Option OwnLog) (last_seq handed_seq next_file : ℕ) (outcomes : List (ℕ × Outcome))
-    → IsInOrder mem trail old segments boot log last_seq handed_seq next_file → new.waiting.items ≡ [] → new.group ≡ old.group
+pub turned_in_order : (mem : MemShown) (trail : Trail) (old new : Queue) (segments : ℕ) (last_seq handed_seq next_file : ℕ) (outcomes : List (ℕ × Outcome))
+    → IsInOrder mem trail old segments last_seq handed_seq next_file → new.waiting.items ≡ [] → new.group ≡ old.group
     → new.outcomes.items ≡ old.outcomes.items ++ outcomes → AllSettled outcomes → vec_len new.outcomes ≡ vec_len old.outcomes + length old.waiting.items
     → vec_capacity new.outcomes ≡ vec_capacity old.outcomes → new.last_ticket ≡ old.last_ticket → new.job ≡ old.job
-    → IsInOrder mem trail new segments boot log last_seq handed_seq next_file
-turned_in_order mem trail old new segments boot log last_seq handed_seq next_file outcomes order waiting group added settled len room last job = record {
-  still = rw (group, waiting) (still_empty boot old.waiting.items (flying old.group) order.still);
-  logged = order.logged;
+    → IsInOrder mem trail new segments last_seq handed_seq next_file
+turned_in_order mem trail old new segments last_seq handed_seq next_file outcomes order waiting group added settled len room last job = record {
   seq = order.seq;
   handed = order.handed;
   limbo = order.limbo;
@@ -306,11 +279,11 @@ pub record IsJoined (trail behind : Trail) (old new : Queue) (batch : Batch) : T
   pub ticket : new.last_ticket ≡ old.last_ticket + 1
   pub job : new.job ≡ old.job
 
-pub joined_in_order : (mem more_mem : MemShown) (trail behind : Trail) (old new : Queue) (segments : ℕ) (boot : BootShown) (log : Option OwnLog) (last_seq handed_seq next_file : ℕ) (batch : Batch)
-    → IsInOrder mem trail old segments boot log last_seq handed_seq next_file → boot ≡ Cleared → IsJoined trail behind old new batch
+pub joined_in_order : (mem more_mem : MemShown) (trail behind : Trail) (old new : Queue) (segments : ℕ) (last_seq handed_seq next_file : ℕ) (batch : Batch)
+    → IsInOrder mem trail old segments last_seq handed_seq next_file → IsJoined trail behind old new batch
     → handed_seq + (count_ops (ops_of (batches_flying (flying old.group))) + count_ops (ops_of (batches_of old.waiting.items))) + length batch.ops ≤ 2 ^ 56 → old.last_ticket < 2 ^ 56 → HasRoomMore mem more_mem batch.ops
-    → IsInOrder more_mem behind new segments boot log last_seq handed_seq next_file
-joined_in_order mem more_mem trail behind old new segments boot log last_seq handed_seq next_file batch order cleared r enough ticket room_more =
+    → IsInOrder more_mem behind new segments last_seq handed_seq next_file
+joined_in_order mem more_mem trail behind old new segments last_seq handed_seq next_file batch order r enough ticket room_more =
     let group = r.group in
     let waiting = r.waiting in
     let member : List Ticketed = ticketed (old.last_ticket + 1) batch ∷ [] in
@@ -318,8 +291,6 @@ joined_in_order mem more_mem trail behind old new segments boot log last_seq han
     let size = length-append old.waiting.items member in
     let ops = joined_ops old.waiting.items (old.last_ticket + 1) batch in
     record {
-      still = still_cleared boot new.waiting.items (flying new.group) cleared;
-      logged = order.logged;
       seq = order.seq ∙ ap (λ (t : TrailShown). seq_in t) (sym r.shows);
       handed = subst (λ (t : TrailShown). handed_seq ≡ last_seq + count_ops t.limbo) (sym r.shows) order.handed;
       limbo = subst EachIsAdmissible (sym r.limbo) order.limbo;
@@ -359,20 +330,18 @@ staged_added : (group : Option FlightShown) → IsOnPlan group → IsOnPlan (gon
 staged_added None staged = tt
 staged_added (Some flight) staged = tt
 
-pub switched_in_order : (mem next_mem : MemShown) (trail : Trail) (old new : Queue) (segments more : ℕ) (boot : BootShown) (log next : Option OwnLog) (last_seq handed_seq next_file : ℕ)
-    → IsInOrder mem trail old segments boot log last_seq handed_seq next_file → IsMoved old new AddRecords → boot ≡ Cleared → IsSome next → more < 2 ^ 32
+pub switched_in_order : (mem next_mem : MemShown) (trail : Trail) (old new : Queue) (segments more : ℕ) (last_seq handed_seq next_file : ℕ)
+    → IsInOrder mem trail old segments last_seq handed_seq next_file → IsMoved old new AddRecords → more < 2 ^ 32
     → next_mem.rows ≡ []
     → bytes_needed (shown trail).limbo + bytes_needed (ops_of (batches_flying (flying old.group))) + bytes_needed (ops_of (batches_of old.waiting.items)) ≤ next_mem.bytes
     → count_ops (shown trail).limbo + count_ops (ops_of (batches_flying (flying old.group))) + count_ops (ops_of (batches_of old.waiting.items)) ≤ next_mem.entries
-    → IsInOrder next_mem trail new more boot next last_seq handed_seq next_file
-switched_in_order mem next_mem trail old new segments more boot log next last_seq handed_seq next_file order q cleared has few rows bytes entries =
+    → IsInOrder next_mem trail new more last_seq handed_seq next_file
+switched_in_order mem next_mem trail old new segments more last_seq handed_seq next_file order q few rows bytes entries =
     let group = q.group in
     let batches = same_batches AddRecords (flying old.group) in
     let tickets = tickets_same AddRecords (flying old.group) in
     let waiting = q.waiting in
     record {
-      still = still_cleared boot new.waiting.items (flying new.group) cleared;
-      logged = subst (λ (b : BootShown). IsLogged b next) (sym cleared) has;
       seq = order.seq;
       handed = order.handed;
       enough = rw (group, waiting, batches) order.enough;

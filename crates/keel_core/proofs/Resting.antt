@@ -1,9 +1,7 @@
 -- A step that rests.
-use Rattle.std.proofs.Common.{◌≡◌, ◌≢◌, ℕ, ◌<◌, List, [], ◌∷◌, length, Option, Some, None, refl, sym, ap, subst, ◌∙◌, arith, option_map, ◌==◌, ◌&&◌, ◌^◌, nat_le}
-use Rattle.std.specs.Prelude.{IsSome}
+use Rattle.std.proofs.Common.{◌≡◌, ℕ, ◌<◌, [], ◌∷◌, length, Option, Some, None, refl, sym, ap, subst, ◌∙◌, arith, option_map, ◌==◌, ◌&&◌, ◌^◌, nat_le}
 use Rattle.keel_base.specs.declared.failure.Failure.{Failure}
 use Rattle.keel_disk.specs.Seen.{IsQuiet}
-use Rattle.keel_group.specs.Queue.{Ticketed}
 use Rattle.keel_machine.specs.declared.steps.WriteStep.{WriteStep}
 use Rattle.keel_machine.specs.declared.steps.WriteStep.TheVariants as step
 use Rattle.keel_machine.specs.States.{State}
@@ -11,29 +9,12 @@ use Rattle.keel_machine.specs.Turns.{Answers, after, Writing}
 use Rattle.keel_machine.specs.Tests.{first_some, when, differing}
 use Rattle.keel_machine.specs.Writing.{write_rest}
 use Rattle.keel_base.specs.declared.failure.Counter.TheVariants.{FileNumber, JobNumber}
-use Rattle.keel_core.specs.declared.log.OwnLog.{OwnLog}
-use Rattle.keel_core.specs.Flights.{FlightShown, log_shown}
-use Rattle.keel_core.specs.Orders.{IsLogged}
+use Rattle.keel_core.specs.Flights.{FlightShown}
 use Rattle.keel_core.specs.Steps.{rested}
-use Rattle.keel_core.specs.Views.{Beyond, BootShown, ToStart, Running, Over, Cleared, CoreView, Fits, IsStill, StandsFor, TakesTurn, ComesNearer, IsRest, state_of, rest_of, Finds, calls_left}
+use Rattle.keel_core.specs.Views.{Beyond, CoreView, Fits, StandsFor, TakesTurn, ComesNearer, IsRest, state_of, rest_of, Finds, calls_left}
 use Rattle.keel_core.proofs.Calling.{quiet_same}
 use Rattle.keel_core.proofs.Failing.{stopping_same}
 use Rattle.keel_core.proofs.Segmenting.{active_weighs, as_many}
-
--- ---- what a core knows of a store that takes writes
-
-pub is_cleared : (boot : BootShown) (waiting : List Ticketed) (group : Option FlightShown) → IsStill boot waiting group → (group ≡ None → waiting ≢ []) → boot ≡ Cleared
-is_cleared Cleared waiting group still some = refl
-is_cleared ToStart waiting group still some = absurd (some still.1 still.0)
-is_cleared (Running resumption) waiting group still some = absurd (some still.1 still.0)
-is_cleared Over waiting group still some = absurd (some still.1 still.0)
-
-pub log_there : (boot : BootShown) (log : Option OwnLog) → IsLogged boot log → boot ≡ Cleared → IsSome (log_shown log)
-log_there Cleared None logged is = absurd cc
-log_there Cleared (Some own) logged is = refl
-log_there ToStart log logged is = absurd (cc is)
-log_there (Running resumption) log logged is = absurd (cc is)
-log_there Over log logged is = absurd (cc is)
 
 -- ---- what it answers
 
@@ -52,35 +33,24 @@ rest_with view held stopping weight others = first_some (
     ∷ [])
 
 -- what a step answers without a call depends on what the core shows
-same_rest : (view : CoreView) (boot : BootShown) (waiting : List Ticketed) (group : Option FlightShown) (beyond : Beyond) (held : Option ℕ) → IsStill boot waiting group
-    → Fits (record view { boot = boot; waiting = waiting; group = group }) beyond
-    → write_rest (state_of (record view { boot = boot; waiting = waiting; group = group }) beyond) held ≡ rest_of (record view { boot = boot; waiting = waiting; group = group }) held
-same_rest view Cleared waiting None beyond held still fits =
+same_rest : (view : CoreView) (group : Option FlightShown) (beyond : Beyond) (held : Option ℕ) → Fits (record view { group = group }) beyond
+    → write_rest (state_of (record view { group = group }) beyond) held ≡ rest_of (record view { group = group }) held
+same_rest view None beyond held fits =
     let weight = active_weighs beyond.in_tables view.immutable beyond.immutable view.rows beyond.active _ fits.segments in
     let others = as_many beyond.in_tables view.immutable beyond.immutable view.rows beyond.active _ fits.segments in
     let stopping = stopping_same view.options beyond.failures view.handler fits.handled in
-    λ i. rest_with (record view { boot = Cleared; waiting = waiting; group = None }) held (stopping i) (weight i) (others i)
-same_rest view Cleared waiting (Some flight) beyond held still fits = refl
-same_rest view ToStart [] None beyond held still fits = refl
-same_rest view ToStart waiting (Some flight) beyond held still fits = absurd (cc (still.1))
-same_rest view ToStart (first ∷ rest) None beyond held still fits = absurd (cc (still.0))
-same_rest view (Running resumption) [] None beyond held still fits = refl
-same_rest view (Running resumption) waiting (Some flight) beyond held still fits = absurd (cc (still.1))
-same_rest view (Running resumption) (first ∷ rest) None beyond held still fits = absurd (cc (still.0))
-same_rest view Over [] None beyond held still fits = refl
-same_rest view Over waiting (Some flight) beyond held still fits = absurd (cc (still.1))
-same_rest view Over (first ∷ rest) None beyond held still fits = absurd (cc (still.0))
+    λ i. rest_with (record view { group = None }) held (stopping i) (weight i) (others i)
+same_rest view (Some flight) beyond held fits = refl
 
-pub rest_same : (view : CoreView) (s : State) (held : Option ℕ) → IsStill view.boot view.waiting view.group → StandsFor view s → write_rest s held ≡ rest_of view held
-rest_same view s held still stands =
-    ap (λ (t : State). write_rest t held) stands.state_is ∙ same_rest view view.boot view.waiting view.group stands.beyond held still stands.fits
+pub rest_same : (view : CoreView) (s : State) (held : Option ℕ) → StandsFor view s → write_rest s held ≡ rest_of view held
+rest_same view s held stands = ap (λ (t : State). write_rest t held) stands.state_is ∙ same_rest view view.group stands.beyond held stands.fits
 
 turned_stands : (view : CoreView) (batches : ℕ) (failure : Failure) (s : State) → StandsFor view s
     → StandsFor (rested (step.Turned batches failure) view) (after s (Writing None (step.Turned batches failure)) view.device)
 turned_stands view batches failure s stands = record {
   beyond = stands.beyond;
   state_is = ap (λ (t : State). after t (Writing None (step.Turned batches failure)) view.device) stands.state_is;
-  fits = record { story = stands.fits.story; segments = stands.fits.segments; tables = stands.fits.tables; opened = stands.fits.opened; leads = stands.fits.leads; met = stands.fits.met; handled = stands.fits.handled; flushes = stands.fits.flushes };
+  fits = record { story = stands.fits.story; segments = stands.fits.segments; tables = stands.fits.tables; opened = stands.fits.opened; leads = stands.fits.leads; handled = stands.fits.handled; flushes = stands.fits.flushes };
 }
 
 pub same_state : (view : CoreView) (s : State) → StandsFor view s → (record s { device = view.device }) ≡ s
@@ -101,9 +71,9 @@ rest_turns view (step.Done job seq batches) s held rests stands is = absurd rest
 rest_turns view (step.Failed failure) s held rests stands is = absurd rests
 rest_turns view step.OutOfMemory s held rests stands is = absurd rests
 
-pub rest_goes : (view : CoreView) (made : WriteStep) (held : Option ℕ) → IsStill view.boot view.waiting view.group → IsRest made → Some made ≡ rest_of view held
+pub rest_goes : (view : CoreView) (made : WriteStep) (held : Option ℕ) → IsRest made → Some made ≡ rest_of view held
     → TakesTurn view (Writing held made) (rested made view)
-rest_goes view made held still rests is = record { goes = λ s stands. rest_turns view made s held rests stands (rest_same view s held still stands ∙ sym is) }
+rest_goes view made held rests is = record { goes = λ s stands. rest_turns view made s held rests stands (rest_same view s held stands ∙ sym is) }
 
 turned_nearer : (view : CoreView) (batches : ℕ) (failure : Failure) → 0 < length view.waiting → calls_left (rested (step.Turned batches failure) view) < calls_left view
 turned_nearer view batches failure some = omega (arith, some)

@@ -27,15 +27,15 @@ use Rattle.keel_machine.specs.WritingAfter as machine_after
 use Rattle.keel_machine.specs.WritingAfter.{IsMove, MadeCall, act_done, act_failed, done_each, failure_of, first_done, first_failed, log_longer, with_group}
 use Rattle.keel_core.specs.declared.flight.Act.{Act}
 use Rattle.keel_core.specs.declared.flight.Act.TheVariants.{CloseLog, MakeLog, SyncDirectory, AddRecords, SyncLog}
-use Rattle.keel_core.specs.Flights.{FlightShown, IsPlanned, act_of, gone_to, group_of, later_than, made_before, next_flying}
+use Rattle.keel_core.specs.Flights.{FlightShown, IsPlanned, act_of, batches_flying, gone_to, group_of, later_than, made_before, next_flying}
 use Rattle.keel_core.specs.Steps.{IsMade, IsRefused, IsWanted, bytes_of, change_of, done, done_step, log_behind, number_in, size_in, stopped, tried}
 use Rattle.keel_core.specs.Trails as trails
 use Rattle.keel_core.specs.Trails.{Continues, seq_in}
-use Rattle.keel_core.specs.Views.{Beyond, Cleared, CoreView, Fits, FullSegment, IsOnPlan, MakesCall, last_in, state_of}
+use Rattle.keel_core.specs.Views.{Beyond, Cleared, CoreView, Fits, FullSegment, HaveOps, IsOnPlan, MakesCall, last_in, state_of}
 use Rattle.keel_core.proofs.Calling.{quiet_same}
 use Rattle.keel_core.proofs.Failing.{handler_noted}
 use Rattle.keel_core.proofs.Forming.{by_story}
-use Rattle.keel_core.proofs.Segmenting.{added_more, one_behind, one_full}
+use Rattle.keel_core.proofs.Segmenting.{added_more, have_ops-append, one_behind, one_full}
 use Rattle.keel_core.proofs.Stories.{handed_on, last_same, published_on, seq_published}
 
 -- ---- memory was wanting
@@ -44,7 +44,7 @@ pub wants_goes : (old new : CoreView) → IsWanted old new → MakesCall old ste
 wants_goes old new wanted =
     subst (MakesCall old step.OutOfMemory) (sym wanted.view_is) (by_story old (record old { device = new.device }) step.OutOfMemory (λ beyond held fits none. (
       record { no_rest = none; quiet = wanted.quiet },
-      record { beyond = beyond; state_is = refl; fits = record { story = fits.story; segments = fits.segments; tables = fits.tables; opened = fits.opened; leads = fits.leads; met = fits.met; handled = fits.handled; flushes = fits.flushes } },
+      record { beyond = beyond; state_is = refl; fits = record { story = fits.story; segments = fits.segments; tables = fits.tables; opened = fits.opened; leads = fits.leads; handled = fits.handled; flushes = fits.flushes } },
     )))
 
 pub same_wanted : (view : CoreView) → IsWanted view view
@@ -140,26 +140,26 @@ module _ (view : CoreView) (told : Seen) (tickets : List ℕ) (batches : List Ba
 
   abbrev Goes : Act → Bool → Type 0
   Goes act sync =
-      IsPlanned act switches sync → Calls view.device (change_of act (before act sync)) (Ok tt) told
+      IsPlanned act switches sync → HaveOps view.trail.limbo × HaveOps (ops_of batches) → Calls view.device (change_of act (before act sync)) (Ok tt) told
       → MakesCall (before act sync) (done_step act (behind act sync)) (done act (behind act sync))
 
   log_closed : (sync : Bool) → Goes CloseLog sync
-  log_closed sync planned calls = by_story (before CloseLog sync) (done CloseLog (behind CloseLog sync)) (done_step CloseLog (behind CloseLog sync)) (λ beyond held fits none. (
+  log_closed sync planned some calls = by_story (before CloseLog sync) (done CloseLog (behind CloseLog sync)) (done_step CloseLog (behind CloseLog sync)) (λ beyond held fits none. (
     moves CloseLog sync planned beyond held fits none states.MakeLog _ refl calls,
     record {
       beyond = beyond;
       state_is = done_is CloseLog sync planned beyond held fits none;
-      fits = record { story = fits.story; segments = fits.segments; tables = fits.tables; opened = fits.opened; leads = fits.leads; met = fits.met; handled = fits.handled; flushes = fits.flushes };
+      fits = record { story = fits.story; segments = fits.segments; tables = fits.tables; opened = fits.opened; leads = fits.leads; handled = fits.handled; flushes = fits.flushes };
     },
   ))
 
   log_made : (sync : Bool) → Goes MakeLog sync
-  log_made sync planned calls = by_story (before MakeLog sync) (done MakeLog (behind MakeLog sync)) (done_step MakeLog (behind MakeLog sync)) (λ beyond held fits none. (
+  log_made sync planned some calls = by_story (before MakeLog sync) (done MakeLog (behind MakeLog sync)) (done_step MakeLog (behind MakeLog sync)) (λ beyond held fits none. (
     moves MakeLog sync planned beyond held fits none states.SyncDirectory _ refl calls,
     record {
       beyond = beyond;
       state_is = done_is MakeLog sync planned beyond held fits none;
-      fits = record { story = fits.story; segments = fits.segments; tables = fits.tables; opened = fits.opened; leads = fits.leads; met = fits.met; handled = fits.handled; flushes = fits.flushes };
+      fits = record { story = fits.story; segments = fits.segments; tables = fits.tables; opened = fits.opened; leads = fits.leads; handled = fits.handled; flushes = fits.flushes };
     },
   ))
 
@@ -168,7 +168,7 @@ module _ (view : CoreView) (told : Seen) (tickets : List ℕ) (batches : List Ba
   switched_group sync made = record { tickets = tickets; batches = batches; plan = group_plan switches sync; progress = record { made = made; log = None } }
 
   name_firm : (log : ℕ) (sync : Bool) → Goes (SyncDirectory log) sync
-  name_firm log sync planned calls = by_story (before (SyncDirectory log) sync) (done (SyncDirectory log) (behind (SyncDirectory log) sync)) (done_step (SyncDirectory log) (behind (SyncDirectory log) sync)) (λ beyond held fits none.
+  name_firm log sync planned some calls = by_story (before (SyncDirectory log) sync) (done (SyncDirectory log) (behind (SyncDirectory log) sync)) (done_step (SyncDirectory log) (behind (SyncDirectory log) sync)) (λ beyond held fits none.
       let full : states.Segment = record { batches = beyond.active; logs = machine_after.numbers_of view.log } in
       let later : Beyond = record beyond { immutable = beyond.immutable ++ full ∷ []; active = [] } in (
         moves (SyncDirectory log) sync planned beyond held fits none states.AddRecords _ refl calls,
@@ -183,7 +183,6 @@ module _ (view : CoreView) (told : Seen) (tickets : List ℕ) (batches : List Ba
             tables = fits.tables;
             opened = fits.opened;
             leads = fits.leads;
-            met = fits.met;
             handled = fits.handled;
             flushes = one_behind view.flush beyond.in_tables beyond.immutable full fits.flushes;
           };
@@ -199,7 +198,7 @@ module _ (view : CoreView) (told : Seen) (tickets : List ℕ) (batches : List Ba
   longer_is sync beyond fits = ap (λ (l : List ℕ). log_longer (length l) view.log) (same_bytes AddRecords sync beyond fits)
 
   records_added : Goes AddRecords true
-  records_added planned calls = by_story (before AddRecords true) (done AddRecords (behind AddRecords true)) (done_step AddRecords (behind AddRecords true)) (λ beyond held fits none.
+  records_added planned some calls = by_story (before AddRecords true) (done AddRecords (behind AddRecords true)) (done_step AddRecords (behind AddRecords true)) (λ beyond held fits none.
       let later : Beyond = record beyond { story = states.handed (ops_of batches) beyond.story } in
       let new : CoreView = done AddRecords (behind AddRecords true) in (
         moves AddRecords true planned beyond held fits none states.SyncLog [] refl calls,
@@ -208,7 +207,7 @@ module _ (view : CoreView) (told : Seen) (tickets : List ℕ) (batches : List Ba
           state_is =
               done_is AddRecords true planned beyond held fits none
               ∙ (λ i. machine_after.with_log (longer_is true beyond fits i) (with_group (Some (added_group (made_added switches i))) (state_of new later)));
-          fits = record { story = handed_on view.trail beyond.story (ops_of batches) fits.story; segments = fits.segments; tables = fits.tables; opened = fits.opened; leads = fits.leads; met = fits.met; handled = fits.handled; flushes = fits.flushes };
+          fits = record { story = handed_on view.trail beyond.story (ops_of batches) fits.story; segments = fits.segments; tables = fits.tables; opened = fits.opened; leads = fits.leads; handled = fits.handled; flushes = fits.flushes };
         },
       ))
 
@@ -218,7 +217,7 @@ module _ (view : CoreView) (told : Seen) (tickets : List ℕ) (batches : List Ba
     published_in = record (before AddRecords sync) { device = told; log = log; trail = trail }
 
   records_published : Goes AddRecords false
-  records_published planned calls = by_story (before AddRecords false) (done AddRecords (behind AddRecords false)) (done_step AddRecords (behind AddRecords false)) (λ beyond held fits none.
+  records_published planned some calls = by_story (before AddRecords false) (done AddRecords (behind AddRecords false)) (done_step AddRecords (behind AddRecords false)) (λ beyond held fits none.
       let given : Continues (trails.handed (ops_of batches) view.trail) (states.handed (ops_of batches) beyond.story) = handed_on view.trail beyond.story (ops_of batches) fits.story in
       let later_story = published_on (trails.handed (ops_of batches) view.trail) (states.handed (ops_of batches) beyond.story) false given in
       let more : List (List Op) = view.trail.limbo ++ ops_of batches in
@@ -245,11 +244,10 @@ module _ (view : CoreView) (told : Seen) (tickets : List ℕ) (batches : List Ba
           state_is = state;
           fits = record {
             story = later_story;
-            segments = added_more beyond.in_tables view.immutable beyond.immutable view.rows beyond.active more (last_in view) _ fits.segments (seq_published (trails.handed (ops_of batches) view.trail) false);
+            segments = added_more beyond.in_tables view.immutable beyond.immutable view.rows beyond.active more (last_in view) _ fits.segments (seq_published (trails.handed (ops_of batches) view.trail) false) (have_ops-append view.trail.limbo (ops_of batches) some.0 some.1);
             tables = fits.tables;
             opened = fits.opened;
             leads = fits.leads;
-            met = fits.met;
             handled = fits.handled;
             flushes = fits.flushes;
           };
@@ -257,7 +255,7 @@ module _ (view : CoreView) (told : Seen) (tickets : List ℕ) (batches : List Ba
       ))
 
   log_firm : (sync : Bool) → Goes SyncLog sync
-  log_firm sync planned calls = by_story (before SyncLog sync) (done SyncLog (behind SyncLog sync)) (done_step SyncLog (behind SyncLog sync)) (λ beyond held fits none.
+  log_firm sync planned some calls = by_story (before SyncLog sync) (done SyncLog (behind SyncLog sync)) (done_step SyncLog (behind SyncLog sync)) (λ beyond held fits none.
       let later_story = published_on view.trail beyond.story true fits.story in
       let later : Beyond = record beyond { story = states.published true beyond.story; active = beyond.active ++ view.trail.limbo } in
       let new : CoreView = done SyncLog (behind SyncLog sync) in
@@ -281,11 +279,10 @@ module _ (view : CoreView) (told : Seen) (tickets : List ℕ) (batches : List Ba
           state_is = state;
           fits = record {
             story = later_story;
-            segments = added_more beyond.in_tables view.immutable beyond.immutable view.rows beyond.active view.trail.limbo (last_in view) _ fits.segments (seq_published view.trail true);
+            segments = added_more beyond.in_tables view.immutable beyond.immutable view.rows beyond.active view.trail.limbo (last_in view) _ fits.segments (seq_published view.trail true) some.0;
             tables = fits.tables;
             opened = fits.opened;
             leads = fits.leads;
-            met = fits.met;
             handled = fits.handled;
             flushes = fits.flushes;
           };
@@ -321,11 +318,11 @@ module _ (view : CoreView) (told : Seen) (tickets : List ℕ) (batches : List Ba
   over_is SyncLog sync fault beyond = refl
 
   over_fits : (act : Act) (sync : Bool) (fault : Fault) (beyond : Beyond) → Fits (before act sync) beyond → Fits (over act sync fault) (beyond_over act fault beyond)
-  over_fits CloseLog sync fault beyond fits = record { story = fits.story; segments = fits.segments; tables = fits.tables; opened = fits.opened; leads = fits.leads; met = fits.met; handled = handler_noted view.options beyond.failures view.handler (failure_of fault) fits.handled; flushes = fits.flushes }
-  over_fits MakeLog sync fault beyond fits = record { story = fits.story; segments = fits.segments; tables = fits.tables; opened = fits.opened; leads = fits.leads; met = fits.met; handled = handler_noted view.options beyond.failures view.handler (failure_of fault) fits.handled; flushes = fits.flushes }
-  over_fits (SyncDirectory log) sync fault beyond fits = record { story = fits.story; segments = fits.segments; tables = fits.tables; opened = fits.opened; leads = fits.leads; met = fits.met; handled = handler_noted view.options beyond.failures view.handler (failure_of fault) fits.handled; flushes = fits.flushes }
-  over_fits AddRecords sync fault beyond fits = record { story = handed_on view.trail beyond.story (ops_of batches) fits.story; segments = fits.segments; tables = fits.tables; opened = fits.opened; leads = fits.leads; met = fits.met; handled = handler_noted view.options beyond.failures view.handler (failure_of fault) fits.handled; flushes = fits.flushes }
-  over_fits SyncLog sync fault beyond fits = record { story = fits.story; segments = fits.segments; tables = fits.tables; opened = fits.opened; leads = fits.leads; met = fits.met; handled = handler_noted view.options beyond.failures view.handler (failure_of fault) fits.handled; flushes = fits.flushes }
+  over_fits CloseLog sync fault beyond fits = record { story = fits.story; segments = fits.segments; tables = fits.tables; opened = fits.opened; leads = fits.leads; handled = handler_noted view.options beyond.failures view.handler (failure_of fault) fits.handled; flushes = fits.flushes }
+  over_fits MakeLog sync fault beyond fits = record { story = fits.story; segments = fits.segments; tables = fits.tables; opened = fits.opened; leads = fits.leads; handled = handler_noted view.options beyond.failures view.handler (failure_of fault) fits.handled; flushes = fits.flushes }
+  over_fits (SyncDirectory log) sync fault beyond fits = record { story = fits.story; segments = fits.segments; tables = fits.tables; opened = fits.opened; leads = fits.leads; handled = handler_noted view.options beyond.failures view.handler (failure_of fault) fits.handled; flushes = fits.flushes }
+  over_fits AddRecords sync fault beyond fits = record { story = handed_on view.trail beyond.story (ops_of batches) fits.story; segments = fits.segments; tables = fits.tables; opened = fits.opened; leads = fits.leads; handled = handler_noted view.options beyond.failures view.handler (failure_of fault) fits.handled; flushes = fits.flushes }
+  over_fits SyncLog sync fault beyond fits = record { story = fits.story; segments = fits.segments; tables = fits.tables; opened = fits.opened; leads = fits.leads; handled = handler_noted view.options beyond.failures view.handler (failure_of fault) fits.handled; flushes = fits.flushes }
 
   over_told : (act : Act) (sync : Bool) (fault : Fault) → (over act sync fault).device ≡ told
   over_told CloseLog sync fault = refl
@@ -363,6 +360,7 @@ pub record IsInFlight (old : CoreView) (act : Act) : Type 0 where
   pub cleared : old.boot ≡ Cleared
   pub on_plan : IsOnPlan old.group
   pub next : next_flying old.group ≡ Some act
+  pub some : HaveOps old.trail.limbo × HaveOps (ops_of (batches_flying old.group))
 
 known_group : (old : CoreView) (group : Option FlightShown) (act : Act) (P : CoreView → Type 0) → IsOnPlan group → next_flying group ≡ Some act
     → ((flight : FlightShown) → IsPlanned act flight.switches flight.sync
@@ -386,9 +384,9 @@ pub done_goes : (old now : CoreView) (act : Act) → IsInFlight old act → IsMa
 done_goes old now act flies made =
     subst (λ (v : CoreView). MakesCall old (done_step act v) (done act v)) (sym made.view_is)
     (known old act
-    (λ (v : CoreView). Calls v.device (change_of act v) (Ok tt) now.device
+    (λ (v : CoreView). HaveOps v.trail.limbo × HaveOps (ops_of (batches_flying v.group)) → Calls v.device (change_of act v) (Ok tt) now.device
     → MakesCall v (done_step act (record v { device = now.device; log = log_behind act v })) (done act (record v { device = now.device; log = log_behind act v })))
-    flies (λ flight planned. went old now.device flight.tickets flight.batches flight.switches act flight.sync planned) made.calls)
+    flies (λ flight planned. went old now.device flight.tickets flight.batches flight.switches act flight.sync planned) flies.some made.calls)
 
 -- behind a call that failed
 pub failed_goes : (old now : CoreView) (act : Act) (fault : Fault) → IsInFlight old act → IsRefused act fault old now

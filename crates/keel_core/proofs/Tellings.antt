@@ -59,7 +59,6 @@ arranged_goes view new rule answer done told rest same = turns_by_story view new
       tables = fits.tables;
       opened = fits.opened;
       leads = fits.leads;
-      met = fits.met;
       handled = fits.handled;
       flushes = fits.flushes;
     };

@@ -5,12 +5,12 @@ use Rattle.keel_core.specs.declared.boot.Boot.{Boot}
 use Rattle.keel_core.specs.declared.boot.Boot.TheVariants as boot
 use Rattle.keel_core.specs.declared.tables.Tables.{Tables}
 use Rattle.keel_core.specs.Tables.{lives_of}
-use Rattle.keel_core.specs.Views.{BootShown, ToStart, Running, Over, Cleared}
+use Rattle.keel_core.specs.Views.{BootShown, ToStart, Started, Running, Cleared}
 
 abbrev pub boot_shown : Boot → BootShown
 boot_shown boot.ToStart = ToStart
-boot_shown (boot.Running resumption) = Running resumption
-boot_shown boot.Over = Over
+boot_shown (boot.Started booted) = Started booted
+boot_shown (boot.Running booted resumption) = Running booted resumption
 boot_shown boot.Cleared = Cleared
 
 abbrev pub levels_in : Tables → List LiveTable

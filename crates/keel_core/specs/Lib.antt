@@ -18,3 +18,4 @@ pub mod Flushes
 pub mod Gets
 pub mod Scans
 pub mod Reads
+pub mod Starting

@@ -1,5 +1,5 @@
 -- What is true of every core, whatever its device tells.
-use Rattle.std.specs.Prelude.{◌≡◌, ℕ, ◌+◌, ◌<◌, ◌≤◌, ◌^◌, List, length, All, Option, None, IsSome, vec_len, vec_capacity}
+use Rattle.std.specs.Prelude.{◌≡◌, ℕ, ◌+◌, ◌<◌, ◌≤◌, ◌^◌, List, length, All, Option, vec_len, vec_capacity}
 use Rattle.std.specs.List.{AllByRecursion}
 use Rattle.keel_group.specs.Forming.{EachIsAdmissible}
 use Rattle.keel_group.specs.Queue.{Ticketed, batches_of}
@@ -8,18 +8,12 @@ use Rattle.keel_machine.specs.declared.answers.Outcome.TheVariants.{Waiting}
 use Rattle.keel_machine.specs.Admission.{ops_of}
 use Rattle.keel_mem.specs.Shown.{MemShown}
 use Rattle.keel_draft.specs.Drafts.{count_ops}
-use Rattle.keel_core.specs.declared.log.OwnLog.{OwnLog}
 use Rattle.keel_core.specs.declared.queue.Queue.{Queue}
 use Rattle.keel_core.specs.declared.trail.Trail.{Trail}
 use Rattle.keel_core.specs.Flights.{FlightShown, batches_flying, flying, tickets_flying}
 use Rattle.keel_core.specs.Placing.{bytes_needed}
 use Rattle.keel_core.specs.Trails.{TrailShown, limbo_in, seq_in, shown}
-use Rattle.keel_core.specs.Views.{BootShown, Cleared, IsOnPlan, IsStill}
-
--- a store that takes writes has a log; before that it has none
-abbrev pub IsLogged : BootShown → Option OwnLog → Type 0
-IsLogged Cleared log = IsSome log
-IsLogged _ log = log ≡ None
+use Rattle.keel_core.specs.Views.{IsOnPlan}
 
 abbrev pub IsSettled : Outcome → Type 0
 IsSettled Waiting = ⊥
@@ -32,9 +26,7 @@ pub record IsHeld (mem : MemShown) (trail : TrailShown) (group : Option FlightSh
   pub bytes : bytes_needed trail.limbo + bytes_needed (ops_of (batches_flying group)) + bytes_needed (ops_of (batches_of waiting)) ≤ mem.bytes
   pub entries : count_ops trail.limbo + count_ops (ops_of (batches_flying group)) + count_ops (ops_of (batches_of waiting)) ≤ mem.entries
 
-pub record IsInOrder (mem : MemShown) (trail : Trail) (queue : Queue) (segments : ℕ) (boot : BootShown) (log : Option OwnLog) (last_seq handed_seq next_file : ℕ) : Type 0 where
-  pub still : IsStill boot queue.waiting.items (flying queue.group)
-  pub logged : IsLogged boot log
+pub record IsInOrder (mem : MemShown) (trail : Trail) (queue : Queue) (segments : ℕ) (last_seq handed_seq next_file : ℕ) : Type 0 where
   -- sequence numbers
   pub seq : last_seq ≡ seq_in (shown trail)
   pub handed : handed_seq ≡ last_seq + count_ops (shown trail).limbo

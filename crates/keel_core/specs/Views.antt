@@ -1,5 +1,6 @@
 -- What a core shows, and the states of the machine that it stands for.
-use Rattle.std.specs.Prelude.{◌≡◌, ◌≢◌, ℕ, ◌+◌, ◌*◌, ◌<◌, ◌^◌, ◌==◌, ◌&&◌, nat_le, Bool, true, false, List, [], ◌∷◌, length, Option, None, Some, IsSome, option_map}
+use Rattle.std.specs.Prelude.{◌≡◌, ◌≢◌, ℕ, ◌+◌, ◌*◌, ◌<◌, ◌≤◌, ◌^◌, ◌==◌, ◌&&◌, nat_le, Bool, true, false, List, [], ◌∷◌, length, Option, None, Some, IsSome, option_map}
+use Rattle.std.specs.List.{AllByRecursion}
 use Rattle.keel_base.specs.declared.limits.TheConstants.{LAST_NUMBER}
 use Rattle.keel_base.specs.declared.failure.Counter.TheVariants.{FileNumber, JobNumber}
 use Rattle.keel_base.specs.declared.failure.Failure.{Failure}
@@ -32,21 +33,31 @@ use Rattle.keel_core.specs.Trails.{TrailShown, Continues, seq_in}
 
 -- ---- what a core shows
 
--- how far the boot of a store has come: it hasn't begun, it runs, a call of it failed, or writes are taken
+-- How far the job has come that makes tables of all segments: none is under way in a store that boots; one was asked for,
+-- and has made no call yet; one runs; or none is under way, and the boot has cleared. Of one that was asked for or runs it
+-- is known whether the boot had cleared before.
 pub data BootShown : Type 0 where
   ToStart : BootShown
-  Running : Resumption → BootShown
-  Over : BootShown
+  Started : Bool → BootShown
+  Running : Bool → Resumption → BootShown
   Cleared : BootShown
 
-abbrev pub takes_writes : BootShown → Bool
-takes_writes Cleared = true
-takes_writes _ = false
+-- the boot of this opening has cleared
+abbrev pub has_booted : BootShown → Bool
+has_booted ToStart = false
+has_booted (Started booted) = booted
+has_booted (Running booted resumption) = booted
+has_booted Cleared = true
 
--- before that no batch was taken in
-abbrev pub IsStill : BootShown → List Ticketed → Option FlightShown → Type 0
-IsStill Cleared waiting group = Unit {0}
-IsStill _ waiting group = (waiting ≡ []) × (group ≡ None)
+-- one was asked for, and has made no call yet
+abbrev pub is_started : BootShown → Bool
+is_started (Started booted) = true
+is_started _ = false
+
+-- none is under way
+abbrev pub resting : Bool → BootShown
+resting true = Cleared
+resting false = ToStart
 
 -- the rows of a full segment, and the numbers of the logs that have them
 pub record FullSegment : Type 0 where
@@ -57,7 +68,7 @@ pub record CoreView : Type 0 where
   pub device : Seen
   pub options : Options
   pub boot : BootShown
-  -- the number of the boot that runs or ran last
+  -- the number of the boot or resume that is or was last under way
   pub boot_job : ℕ
   -- the story since the opening
   pub trail : TrailShown
@@ -118,24 +129,25 @@ pub record Beyond : Type 0 where
   -- the failures since the last clear, oldest first
   pub failures : List Failure
 
+-- a batch that has an op
+abbrev pub HasOp : List Op → Type 0
+HasOp ops = 1 ≤ length ops
+
+abbrev pub HaveOps : List (List Op) → Type 0
+HaveOps batches = AllByRecursion HasOp batches
+
 -- The rows of the segments are those of their batches, which are numbered on behind that number up to the last one.
 abbrev pub AreSegments : ℕ → List FullSegment → List Segment → List Row → List (List Op) → ℕ → Type 0
-AreSegments seq [] [] rows active last = (rows ≡ batch_rows (seq + 1) active) × (seq + count_ops active ≡ last)
+AreSegments seq [] [] rows active last = (rows ≡ batch_rows (seq + 1) active) × (seq + count_ops active ≡ last) × HaveOps active
 AreSegments seq (full ∷ fulls) (segment ∷ segments) rows active last =
     (full.logs ≡ segment.logs) × (full.rows ≡ batch_rows (seq + 1) segment.batches)
     × AreSegments (seq + count_ops segment.batches) fulls segments rows active last
 AreSegments seq _ _ rows active last = ⊥
 
--- a boot that runs has these tables before it
+-- a job that runs has these tables before it
 abbrev pub IsLeading : BootShown → List LiveTable → Type 0
-IsLeading (Running resumption) levels = resumption.job.live ≡ tables_of levels
+IsLeading (Running booted resumption) levels = resumption.job.live ≡ tables_of levels
 IsLeading _ levels = Unit {0}
-
--- a boot meets no failure but the one that ends it
-abbrev pub IsMet : BootShown → List Failure → Type 0
-IsMet Cleared failures = Unit {0}
-IsMet Over failures = length failures ≢ 0
-IsMet _ failures = failures ≡ []
 
 -- the handler has the settings of the options, has given up nothing, and has the failure that stands of these
 pub record IsHandlerOf (options : Options) (failures : List Failure) (handler : HandlerState) : Type 0 where
@@ -149,7 +161,7 @@ abbrev pub IsOfFirst : ℕ → ℕ → List Segment → Type 0
 IsOfFirst seq last [] = ⊥
 IsOfFirst seq last (segment ∷ segments) = last ≡ seq + count_ops segment.batches
 
--- a flush runs once the store takes writes, and is of the oldest full segment
+-- a flush runs where no other job is under way and the boot has cleared, and is of the oldest full segment
 abbrev pub IsFlushing : BootShown → Option FlushJob → ℕ → List Segment → Type 0
 IsFlushing Cleared None seq segments = Unit {0}
 IsFlushing Cleared (Some job) seq segments = IsOfFirst seq job.draft.last segments
@@ -163,16 +175,18 @@ pub record Fits (view : CoreView) (beyond : Beyond) : Type 0 where
   -- of a known device what is open is what its files have
   pub opened : WhereKnown beyond.footing (AreOpened view.levels beyond.levels)
   pub leads : IsLeading view.boot view.levels
-  pub met : IsMet view.boot beyond.failures
   pub handled : IsHandlerOf view.options beyond.failures view.handler
   pub flushes : IsFlushing view.boot view.flush beyond.in_tables beyond.immutable
 
+abbrev pub phase_if : Bool → Phase
+phase_if true = machine.Open
+phase_if false = machine.Booting
+
 abbrev pub phase_of : BootShown → Phase
-phase_of Cleared = machine.Open
-phase_of _ = machine.Booting
+phase_of boot = phase_if (has_booted boot)
 
 abbrev pub resumption_of : BootShown → Option Resumption
-resumption_of (Running resumption) = Some resumption
+resumption_of (Running booted resumption) = Some resumption
 resumption_of _ = None
 
 -- the state whose other parts are what the core shows
@@ -191,6 +205,7 @@ state_of view beyond = record {
     write = record { number = view.job; running = running_of view.group };
     flush = record { number = view.flush_job; running = view.flush };
     resume = record { number = view.boot_job; running = resumption_of view.boot };
+    started = is_started view.boot;
   };
   numbers = record { next_file = view.next_file; manifest = view.manifest; in_tables = beyond.in_tables };
 }
@@ -250,7 +265,19 @@ abbrev pub IsOnPlan : Option FlightShown → Type 0
 IsOnPlan None = Unit {0}
 IsOnPlan (Some flight) = IsPlanned flight.next flight.switches flight.sync
 
--- A group is in flight or can be formed, there is a log, and the numbers that its calls draw are below their ends.
+-- no other job is under way, and there is a log
+pub record IsReady (view : CoreView) : Type 0 where
+  pub cleared : view.boot ≡ Cleared
+  pub log : IsSome view.log
+
+-- a group is in flight or can be formed, and the numbers that its calls draw are below their ends
+pub record MayGoOn (view : CoreView) : Type 0 where
+  pub on_plan : IsOnPlan view.group
+  pub some : view.group ≡ None → view.waiting ≢ []
+  pub job : view.group ≡ None → view.job < 2 ^ 56
+  pub file : draws_next view.group ≡ true → view.next_file < 2 ^ 56
+
+-- a write step makes its call
 pub record CanGoOn (view : CoreView) : Type 0 where
   pub cleared : view.boot ≡ Cleared
   pub log : IsSome view.log

@@ -1,20 +1,34 @@
-// How far the boot has come.
+// How far the job has come that makes tables of all segments.
+ghost use Rattle.std.specs.Prelude.{◌≡◌};
+ghost use Rattle.keel_core.specs.Boots.{boot_shown};
+ghost use Rattle.keel_core.specs.Views.{resting};
+
 use keel_resume::ResumeJob;
 use std::marker::Model;
 
-/// How far the boot of a store has come.
+/// How far the boot of a store, or a resume, has come.
 #[derive(Drop)]
 pub(crate) enum Boot {
-    /// It hasn't begun.
+    /// The store boots, and nothing is under way.
     ToStart,
-    Running(Resumption),
-    /// A call of it failed, and the store takes no writes.
-    Over,
-    /// It is over, and the store takes writes.
+    /// A resume was asked for, and has made no call yet. The boot of this opening had cleared before, or not.
+    Started { booted: bool },
+    /// A boot or a resume runs.
+    Running { booted: bool, running: Resumption },
+    /// The boot of this opening has cleared, and nothing is under way.
     Cleared,
 }
 
-/// A boot, and how many steps it has made.
+impl Boot {
+    /// Nothing is under way.
+    pub(crate) fn resting(booted: bool) -> Boot
+        ensures { boot_shown result ≡ resting booted }
+    {
+        if booted { Boot::Cleared } else { Boot::ToStart }
+    }
+}
+
+/// A boot or a resume, and how many steps it has made.
 #[derive(Drop)]
 pub(crate) struct Resumption {
     pub(crate) steps: u64,

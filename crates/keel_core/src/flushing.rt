@@ -50,6 +50,9 @@ impl<D: Disk> Core<D> {
         if let Some(rest) = self.flush_rest(held) {
             return rest;
         }
+        if !self.is_ready() {
+            return JobStep::OutOfMemory;
+        }
         match self.flush.take() {
             Some(running) => self.go_on_flushing(alloc, running),
             None => self.start_flush(alloc),
@@ -91,7 +94,6 @@ impl<D: Disk> Core<D> {
     fn flush_rest(&self, held: Option<u64>) -> Option<JobStep>
         ensures rest { result ≡ flush_rest_of self.now held }
         ensures rests { IfSome result IsRest }
-        ensures cleared { result ≡ None → self.now.boot ≡ Cleared }
         ensures number { result ≡ None → self.now.flush ≡ None → self.now.flush_job < 2 ^ 56 }
         ensures below { result ≡ None → self.now.flush ≡ None → self.now.next_file < 2 ^ 56 }
     {
@@ -103,7 +105,7 @@ impl<D: Disk> Core<D> {
                 });
             }
         }
-        if !self.takes_writes() || self.handler.work_stops() || self.segments.is_empty() {
+        if !self.has_booted() || self.handler.work_stops() || self.segments.is_empty() {
             return Some(JobStep::Idle);
         }
         match &self.flush {

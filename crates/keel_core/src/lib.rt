@@ -10,6 +10,10 @@
 //! A failure of any job is noted in one handler (`keel_handler`), which has the first of the most severe ones. Writes and
 //! flushes rest as that one says. A group in flight goes on to its end, since a failure of a flush leaves its log sound.
 //!
+//! `resume` asks to go on behind such a failure. A soft one is forgotten at once; behind a hard one the group in flight and
+//! the flush are cancelled, and the resume steps do what a boot does: the first one takes all segments over, also the
+//! active one, and behind the last one all that was published is in tables, a new log is in use, and no failure stands.
+//!
 //! Each call promises a turn of `keel_machine` (`TakesTurn`, `TakesRead`, `ResumesTurn`, `FlushesTurn` in `specs`): for
 //! every state that the core stands for, the answer has its cause there, and the core stands for the state behind.
 //! `keel_recovery` says what a crash leaves of such turns. It is the store that the program runs.
@@ -17,6 +21,7 @@
 
 mod boot;
 mod booting;
+mod closing;
 mod flight;
 mod flushing;
 mod handling;
@@ -28,6 +33,7 @@ mod reading;
 mod scanning;
 mod segments;
 mod sizes;
+mod starting;
 mod store;
 mod switching;
 mod tables;
@@ -38,3 +44,6 @@ mod writing;
 pub use opening::Refused;
 pub use store::Core;
 pub use trail::Trail;
+
+#[cfg(test)]
+mod tests;

@@ -1,5 +1,5 @@
 // The batches that wait, the group in flight, and the outcomes that weren't taken.
-ghost use Rattle.std.specs.Prelude.{◌≡◌, ◌+◌, ◌<◌, ◌≤◌, ◌^◌, ◌++◌, ◌==◌, [], not, filter, length, drop, vec_len, vec_capacity, None, Some, OnOk};
+ghost use Rattle.std.specs.Prelude.{◌≡◌, ◌+◌, ◌<◌, ◌≤◌, ◌^◌, ◌++◌, ◌==◌, [], true, not, filter, length, drop, vec_len, vec_capacity, None, Some, is_some, OnOk};
 ghost use Rattle.std.specs.List.{list_any};
 ghost use Rattle.keel_group.specs.Forming.{EachIsAdmissible, HasRoomFor, next_batches, next_size};
 ghost use Rattle.keel_group.specs.Queue.{batches_of, tickets_of};
@@ -8,8 +8,10 @@ ghost use Rattle.keel_draft.specs.Drafts.{count_ops};
 ghost use Rattle.keel_core.specs.Flights.{batches_flying, tickets_flying};
 ghost use Rattle.keel_machine.specs.WritingAfter.{done_each, seq_behind};
 ghost use Rattle.keel_core.specs.Queues.{given};
+ghost use Rattle.keel_core.specs.Starting.{number_behind};
 
 use crate::flight::{Act, Flight, first_act};
+use crate::starting::number_behind;
 use keel_base::{Batch, Call, Failure, OutOfMemory};
 use keel_group::{Formed, MAX_WAITING, WaitQueue};
 use keel_machine::{Outcome, WriteStep};
@@ -197,6 +199,33 @@ impl Queue {
     {
         if let Some(group) = self.group.take() {
             give(&mut self.outcomes, &group.tickets, outcome);
+        }
+    }
+
+    /// The group in flight, where there is one, is over: another job begins, and each of its batches has that failure. Whoever
+    /// holds its number is told.
+    pub(crate) fn cancel(&mut self, failure: Failure)
+        requires room { vec_len self.old.outcomes + length (tickets_flying (flying self.old.group)) ≤ vec_capacity self.old.outcomes }
+        requires job { is_some (flying self.old.group) ≡ true → self.old.job < 2 ^ 56 }
+        ensures waiting { self.new.waiting ≡ self.old.waiting }
+        ensures group { self.new.group ≡ None }
+        ensures outcomes { self.new.outcomes.items ≡ self.old.outcomes.items ++ given (Outcome.Failed failure) (tickets_flying (flying self.old.group)) }
+        ensures len { vec_len self.new.outcomes ≡ vec_len self.old.outcomes + length (tickets_flying (flying self.old.group)) }
+        ensures last_ticket { self.new.last_ticket ≡ self.old.last_ticket }
+        ensures job { self.new.job ≡ number_behind (is_some (flying self.old.group)) self.old.job }
+        ensures room { vec_capacity self.new.outcomes ≡ vec_capacity self.old.outcomes }
+    {
+        self.job = number_behind(self.is_flying(), self.job);
+        self.settle(Outcome::Failed(failure));
+    }
+
+    /// Whether a group is in flight.
+    pub(crate) fn is_flying(&self) -> bool
+        ensures { result ≡ is_some (flying self.now.group) }
+    {
+        match &self.group {
+            Some(_) => true,
+            None => false,
         }
     }
 

@@ -1,5 +1,5 @@
 // The store: what it keeps, and the calls that make none of the device.
-ghost use Rattle.std.specs.Prelude.{◌≡◌, ◌<◌, IfOk};
+ghost use Rattle.std.specs.Prelude.{◌≡◌, ◌<◌, IfOk, true};
 ghost use Rattle.keel_disk.specs.declared.rule.Arranged.TheVariants as Arranged;
 ghost use Rattle.keel_disk.specs.Rule.{IsAllowed};
 ghost use Rattle.keel_disk.specs.Seen.{IsArranged};
@@ -8,7 +8,7 @@ ghost use Rattle.keel_machine.specs.declared.answers.Outcome.TheVariants.{Waitin
 ghost use Rattle.keel_machine.specs.Turns as event;
 ghost use Rattle.keel_machine.specs.Turns.{Admitting, Arranging, TakingOutcome};
 ghost use Rattle.keel_core.specs.Trails.{shown};
-ghost use Rattle.keel_core.specs.Views.{TakesTurn, last_in, calls_left, with_device, is_full, is_store_full, takes_writes};
+ghost use Rattle.keel_core.specs.Views.{TakesTurn, last_in, calls_left, with_device, is_full, is_store_full, has_booted, IsReady};
 
 use crate::boot::Boot;
 use crate::flushing::Flushing;
@@ -35,7 +35,7 @@ pub struct Core<D: Disk> {
     pub(crate) disk: D,
     pub(crate) options: Options,
     pub(crate) boot: Boot,
-    // the number of the boot that runs or ran last
+    // the number of the boot or resume that is or was last under way
     pub(crate) boot_job: u64,
     pub(crate) trail: Trail,
     // the full segments, oldest first, and the rows of the active one
@@ -88,7 +88,7 @@ impl<D: Disk> Model for Core<D> {
       manifest = c.manifest;
     } };
 
-    ghost invariant = { λ c. IsInOrder c.mem c.trail c.queue (length c.segments.items) (boot_shown c.boot) c.log c.last_seq c.handed_seq c.next_file.number };
+    ghost invariant = { λ c. IsInOrder c.mem c.trail c.queue (length c.segments.items) c.last_seq c.handed_seq c.next_file.number };
 }
 
 impl<D: Disk> Core<D> {
@@ -120,7 +120,7 @@ impl<D: Disk> Core<D> {
         if let Some(refusal) = size_refusal(&batch) {
             return refusal;
         }
-        if !self.takes_writes() {
+        if !self.has_booted() {
             return Admit::Booting;
         }
         match stopping(&self.handler) {
@@ -184,11 +184,27 @@ impl<D: Disk> Core<D> {
         self.disk
     }
 
-    // Whether the boot has cleared.
-    pub(crate) fn takes_writes(&self) -> bool
-        ensures { takes_writes self.now.boot ≡ result }
+    // Whether the boot of this opening has cleared.
+    pub(crate) fn has_booted(&self) -> bool
+        ensures { has_booted self.now.boot ≡ result }
     {
-        matches!(self.boot, Boot::Cleared)
+        match self.boot {
+            Boot::ToStart => false,
+            Boot::Started { booted } => booted,
+            Boot::Running { booted, .. } => booted,
+            Boot::Cleared => true,
+        }
+    }
+
+    // Whether nothing else is under way, and there is a log. Where a write step or a flush step is to make a call it always is
+    // so: behind a failed resume, which leaves no log, both rest.
+    pub(crate) fn is_ready(&self) -> bool
+        ensures { result ≡ true → IsReady self.now }
+    {
+        match self.boot {
+            Boot::Cleared => self.log.is_some(),
+            _ => false,
+        }
     }
 
     // Whether the active segment takes no further group.

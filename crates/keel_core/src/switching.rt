@@ -55,7 +55,7 @@ impl<D: Disk> Core<D> {
     }
 
     // An empty memtable with room for all batches on their way, and the number of the log of the full segment.
-    fn next_segment(&self, alloc: Global) -> Result<Segment, OutOfMemory>
+    pub(crate) fn next_segment(&self, alloc: Global) -> Result<Segment, OutOfMemory>
         ensures { IfOk result (IsNextSegment self.now) }
     {
         let mut mem = Mem::new(alloc);

@@ -20,15 +20,15 @@
 ghost use Rattle.std.specs.Prelude.{◌≡◌, ◌+◌, ◌<◌, ◌≤◌, ◌^◌, None, Some, IsNone, IsSome, IfNone, IfSome, IfOk, true};
 ghost use Rattle.keel_batch.specs.Batches.{payloads_behind};
 ghost use Rattle.keel_frag.specs.Writing.{records_bytes};
-ghost use Rattle.keel_group.specs.Forming.{EachIsAdmissible, HasRoomFor, next_size};
+ghost use Rattle.keel_group.specs.Forming.{EachIsAdmissible, HasRoomFor, next_batches, next_size};
 ghost use Rattle.keel_machine.specs.Admission.{ops_of};
 ghost use Rattle.keel_machine.specs.Tests.{first_some};
 ghost use Rattle.keel_machine.specs.Turns.{Writing};
 ghost use Rattle.keel_machine.specs.WritingAfter.{failure_of};
 ghost use Rattle.keel_draft.specs.Drafts.{count_ops};
-ghost use Rattle.keel_core.specs.Flights.{is_synced, next_flying};
+ghost use Rattle.keel_core.specs.Flights.{batches_flying, is_synced, next_flying};
 ghost use Rattle.keel_core.specs.Steps.{Makes, IsNotSwitch, NextIs, formed, handed_over, spoilt, all_published, published_step, done, done_step, tried, rested, stopped};
-ghost use Rattle.keel_core.specs.Views.{TakesTurn, MakesCall, ComesNearer, CanGoOn, Cleared, IsRest, IsStill, Finds, draws_next, rest_of, rests_of};
+ghost use Rattle.keel_core.specs.Views.{TakesTurn, MakesCall, ComesNearer, CanGoOn, MayGoOn, HaveOps, Cleared, IsRest, Finds, draws_next, rest_of, rests_of};
 
 use crate::flight::{Act, first_act};
 use crate::handling::{note, stopping};
@@ -53,7 +53,13 @@ impl<D: Disk> Core<D> {
     {
         match self.rest(held) {
             Some(rest) => self.rest_with(rest),
-            None => self.act(alloc),
+            None => {
+                if self.is_ready() {
+                    self.act(alloc)
+                } else {
+                    WriteStep::OutOfMemory
+                }
+            }
         }
     }
 
@@ -71,10 +77,9 @@ impl<D: Disk> Core<D> {
     // What the step answers where it makes no call.
     fn rest(&self, held: Option<u64>) -> Option<WriteStep>
         ensures rest { result ≡ rest_of self.now held }
-        ensures none { IfNone result (CanGoOn self.now) }
+        ensures none { IfNone result (MayGoOn self.now) }
         ensures rests { IfSome result IsRest }
         ensures finds { IfSome result (Finds self.now) }
-        ensures still { IsStill self.now.boot self.now.waiting self.now.group }
     {
         if let Some(job) = held {
             if job != self.queue.job {
@@ -94,7 +99,7 @@ impl<D: Disk> Core<D> {
     fn group_rest(&self) -> Option<WriteStep>
         requires none { self.now.group ≡ None }
         ensures rest { result ≡ first_some (rests_of self.now None) }
-        ensures none { IfNone result (CanGoOn self.now) }
+        ensures none { IfNone result (MayGoOn self.now) }
         ensures rests { IfSome result IsRest }
         ensures finds { IfSome result (Finds self.now) }
     {
@@ -124,7 +129,7 @@ impl<D: Disk> Core<D> {
     fn file_rest(&self) -> Option<WriteStep>
         requires some { IsSome self.now.group }
         ensures rest { result ≡ first_some (rests_of self.now self.now.group) }
-        ensures none { IfNone result (CanGoOn self.now) }
+        ensures none { IfNone result (MayGoOn self.now) }
         ensures rests { IfSome result IsRest }
         ensures finds { IfSome result (Finds self.now) }
     {
@@ -147,6 +152,8 @@ impl<D: Disk> Core<D> {
     // The next act of the group in flight, or the first one of the next group.
     fn next_act(&self) -> Act
         ensures next { NextIs result self.now self.now.group }
+        ensures limbo { HaveOps self.now.trail.limbo }
+        ensures flying { HaveOps (ops_of (batches_flying self.now.group)) }
     {
         match &self.queue.group {
             Some(flight) => flight.next,
@@ -256,7 +263,8 @@ impl<D: Disk> Core<D> {
         requires room { HasRoomFor (next_size self.old.waiting) prepared }
         requires cleared { self.old.boot ≡ Cleared }
         requires job { self.old.job < 2 ^ 56 }
-        ensures { self.new ≡ formed self.old }
+        ensures view { self.new ≡ formed self.old }
+        ensures each { EachIsAdmissible (next_batches self.old.waiting) }
     {
         let switches = self.is_full();
         self.queue.form(prepared, switches);

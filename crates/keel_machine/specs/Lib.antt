@@ -6,6 +6,7 @@ pub mod Writing
 pub mod WritingAfter
 pub mod Resuming
 pub mod Flushing
+pub mod Starting
 pub mod Telling
 pub mod Opening
 pub mod Crash

@@ -110,7 +110,7 @@ opened options found s = record {
   levels = found.levels;
   writing = record { waiting = []; outcomes = []; last_ticket = 0 };
   failing = record { failures = [] };
-  jobs = record { write = idle_slot; flush = idle_slot; resume = idle_slot };
+  jobs = record { write = idle_slot; flush = idle_slot; resume = idle_slot; started = false };
   numbers = record {
     next_file = found.store.next_file;
     manifest = named_at_opening found.store.manifest found.store.edits;

@@ -1,5 +1,7 @@
--- The resume step, which runs the boot: what it asks of the device, what it answers, and what it leaves.
-use Rattle.std.specs.Prelude.{◌≡◌, ℕ, ◌+◌, ◌<◌, ◌^◌, ◌&&◌, ◌==◌, not, Bool, false, List, [], ◌∷◌, length, map, nat_le, Option, Some, None, option_map}
+-- The resume step, which runs the boot and a resume that was asked for: what it asks of the device, what it answers, and
+-- what it leaves.
+use Rattle.std.specs.Prelude.{◌≡◌, ℕ, ◌+◌, ◌<◌, ◌≤◌, ◌^◌, ◌&&◌, ◌||◌, not, Bool, false, List, [], ◌∷◌, ◌++◌, length, map, nat_le, Option, Some, None, is_some, option_map, if◌then◌else◌}
+use Rattle.std.specs.List.{AllByRecursion}
 use Rattle.keel_base.specs.declared.limits.TheConstants.{LAST_NUMBER}
 use Rattle.keel_base.specs.declared.failure.Call.{Call}
 use Rattle.keel_base.specs.declared.failure.Counter.TheVariants.{FileNumber, JobNumber}
@@ -10,68 +12,102 @@ use Rattle.keel_directory.specs.TableFiles.{TableFile}
 use Rattle.keel_disk.specs.Seen.{Calls, IsQuiet, Seen}
 use Rattle.keel_machine.specs.declared.steps.ResumeStep.{ResumeStep}
 use Rattle.keel_machine.specs.declared.steps.ResumeStep.TheVariants.{Idle, Moved, Cleared, Failed, Spent, Cancelled, OutOfMemory}
-use Rattle.keel_machine.specs.Admission.{last_seq}
+use Rattle.keel_machine.specs.Admission.{last_seq, stopping}
 use Rattle.keel_machine.specs.Outside.{as_answer}
-use Rattle.keel_machine.specs.States.{State, Story, Open, Resumption, Segment, entries_in, is_booting, new_log}
+use Rattle.keel_machine.specs.States.{State, Story, Open, Active, Jobs, Resumption, Segment, Segments, entries_in, is_booting, new_log, no_batches}
 use Rattle.keel_machine.specs.Tests.{first_some, when, differing}
-use Rattle.keel_machine.specs.WritingAfter.{noted}
+use Rattle.keel_machine.specs.WritingAfter.{noted, numbers_of}
 use Rattle.keel_draft.specs.Drafts.{Draft, AreDraftsOf, file_of, numbered, with_new}
 use Rattle.keel_manifest.specs.State.{ManifestState}
 use Rattle.keel_resume.specs.Jobs.{manifest_behind, manifest_tried}
 use Rattle.keel_resume.specs.Plans.{Job, Act, left_of, job_of, draws, next_behind, change_of, call_of, failure_of, moved}
 
--- ---- the boot
+-- ---- the job
 
 -- a store boots where no failure stands in the way of it
 abbrev pub boot_is_to_start : State → Bool
-boot_is_to_start s = is_booting s.mode.phase && (length s.failing.failures == 0)
+boot_is_to_start s = is_booting s.mode.phase && not (is_some (stopping s))
+
+-- a job begins where a resume was asked for, or the store is to boot
+abbrev pub is_to_start : State → Bool
+is_to_start s = s.jobs.started || boot_is_to_start s
+
+-- what the active segment leaves as a full one, where it has a batch
+abbrev pub closed_batches : List (List Op) → List ℕ → List Segment
+closed_batches [] logs = []
+closed_batches (ops ∷ batches) logs = record { batches = ops ∷ batches; logs = logs } ∷ []
+
+abbrev pub closed_of : Active → List Segment
+closed_of active = closed_batches active.batches (numbers_of active.log)
+
+-- no further batch joins a segment, and no log is written to any more
+abbrev pub all_closed : Segments → Segments
+all_closed segments = record { immutable = segments.immutable ++ closed_of segments.active; active = no_batches }
+
+-- the job takes over all segments
+abbrev pub taken_over : State → State
+taken_over s = record s { segments = all_closed s.segments }
 
 abbrev pub with_resumption : Option Resumption → State → State
 with_resumption running s = record s { jobs = record s.jobs { resume = record s.jobs.resume { running = running } } }
 
--- a boot is under way, with a table before it for each segment
-abbrev pub boot_started : List Draft → State → State
-boot_started drafts s = record s {
+-- one that was asked for has its number already
+abbrev pub job_number : Jobs → ℕ
+job_number jobs = if jobs.started then jobs.resume.number else jobs.resume.number + 1
+
+-- a job is under way, with a table before it for each segment
+abbrev pub job_begun : List Draft → State → State
+job_begun drafts s = record s {
   jobs = record s.jobs {
     resume = record {
-      number = s.jobs.resume.number + 1;
+      number = job_number s.jobs;
       running = Some (record { steps = 0; job = job_of (entries_in s.levels) (last_seq s) drafts });
     };
+    started = false;
   };
 }
 
 abbrev pub started_or : Option Resumption → List Draft → State → State
-started_or None drafts s = boot_started drafts s
+started_or None drafts s = job_begun drafts (taken_over s)
 started_or (Some running) drafts s = s
 
--- the state in which the boot makes its next call: the one that runs, or the one that begins
+-- the state in which the job makes its next call: the one that runs, or the one that begins
 abbrev pub resume_ready : List Draft → State → State
 resume_ready drafts s = started_or s.jobs.resume.running drafts s
 
 abbrev pub batches_in : List Segment → List (List (List Op))
 batches_in segments = map (λ (segment : Segment). segment.batches) segments
 
--- a table for each segment, and no more than a version may have
+-- a segment that has a batch
+abbrev pub HasBatch : Segment → Type 0
+HasBatch segment = 1 ≤ length segment.batches
+
+-- a table for each segment, each of which has a batch, and no more than a version may have
 pub record AreTables (s : State) (drafts : List Draft) : Type 0 where
   pub are : AreDraftsOf s.numbers.in_tables (batches_in s.segments.immutable) drafts
+  pub some : AllByRecursion HasBatch s.segments.immutable
   pub few : length s.levels + length drafts < 2 ^ 32
 
--- of a boot that begins the tables are those of the segments; one that runs has its own
+-- of a job that begins the tables are those of the segments; one that runs has its own
 abbrev pub AreDrafts : Option Resumption → State → List Draft → Type 0
-AreDrafts None s drafts = AreTables s drafts
+AreDrafts None s drafts = AreTables (taken_over s) drafts
 AreDrafts (Some running) s drafts = drafts ≡ running.job.drafts
 
 -- ---- rests and refusals
 
--- without a boot that runs
-abbrev pub rests_before_boot : State → List (Option ResumeStep)
-rests_before_boot s =
-    when (not (boot_is_to_start s)) Idle
-    ∷ when (nat_le LAST_NUMBER s.jobs.resume.number) (Spent JobNumber)
+-- a job that draws its number now would pass the end
+abbrev pub is_start_spent : State → Bool
+is_start_spent s = not s.jobs.started && nat_le LAST_NUMBER s.jobs.resume.number
+
+-- without a job that runs
+abbrev pub rests_before_job : State → List (Option ResumeStep)
+rests_before_job s =
+    when (not (is_to_start s)) Idle
+    ∷ when (is_start_spent s) (Spent JobNumber)
     ∷ []
 
 abbrev pub rests_of : Option Resumption → State → List (Option ResumeStep)
-rests_of None s = rests_before_boot s
+rests_of None s = rests_before_job s
 rests_of (Some running) s = []
 
 -- the next call draws a file's number
@@ -124,8 +160,8 @@ made_in job = numbered file_of job.progress.tables job.drafts
 abbrev pub cleared_story : Story → Story
 cleared_story story = record story { limbo = []; floor = length story.log }
 
--- Behind the last call of a boot the store writes: its tables have all batches, the log that was made is empty, and the
--- manifest that was made is in use.
+-- Behind the last call of a job the store writes: its tables have all batches, the log that was made is empty, the
+-- manifest that was made is in use, and no failure stands.
 abbrev pub cleared : Job → State → State
 cleared job s = record s {
   mode = record s.mode { phase = Open };
@@ -137,13 +173,13 @@ cleared job s = record s {
   numbers = record s.numbers { in_tables = last_seq s };
 }
 
--- the state behind a call of the boot that was answered Ok, with the calls left behind it
+-- the state behind a call of the job that was answered Ok, with the calls left behind it
 abbrev pub act_done : Act → Resumption → List Act → State → State
 act_done act running [] s = cleared (moved s.numbers.next_file act running.job) (numbered_behind act running.job s)
 act_done act running (next ∷ later) s =
     with_resumption (Some (one_more act s.numbers.next_file running)) (numbered_behind act running.job s)
 
--- behind a call that failed the boot is over; a number is used up
+-- behind a call that failed the job is over; a number is used up
 abbrev pub act_failed : Act → Job → Failure → State → State
 act_failed act job failure s = noted failure (with_resumption None (numbered_tried act job s))
 
@@ -171,14 +207,14 @@ call_failed drafts failure s = boot_failed (resume_ready drafts s).jobs.resume.r
 
 -- ---- answers
 
--- In this state a call is made: the boot's first one that is left, with the ones behind it.
+-- In this state a call is made: the job's first one that is left, with the ones behind it.
 pub record Makes (s : State) (drafts : List Draft) (held : Option ℕ) (running : Resumption) (act : Act) (later : List Act) : Type 0 where
   pub no_rest : resume_rest s drafts held ≡ None
   pub drafts_are : AreDrafts s.jobs.resume.running s drafts
   pub running_is : (resume_ready drafts s).jobs.resume.running ≡ Some running
   pub next : left_of running.job ≡ act ∷ later
 
--- a call of the boot was made and answered so
+-- a call of the job was made and answered so
 pub record MadeCall (s : State) (drafts : List Draft) (held : Option ℕ) (running : Resumption) (act : Act) (later : List Act) (failed : Option Fault) (device : Seen) : Type 0 where
   pub makes : Makes s drafts held running act later
   pub calls : Calls s.device (change_of running.job s.numbers.next_file act) (as_answer failed) device
@@ -217,7 +253,7 @@ pub record IsWant (s : State) (drafts : List Draft) (held : Option ℕ) (device 
   pub no_rest : resume_rest s drafts held ≡ None
   pub quiet : IsQuiet s.device None device
 
--- each answer of a resume step with its cause, with the tables that its boot has before it
+-- each answer of a resume step with its cause, with the tables that its job has before it
 abbrev pub ResumeAnswers : State → List Draft → Option ℕ → ResumeStep → Seen → Type 0
 ResumeAnswers s drafts held (Moved job call) device = IsMove s drafts held job call device
 ResumeAnswers s drafts held (Cleared job steps) device = IsClear s drafts held job steps device

@@ -116,7 +116,7 @@ pub record Segment : Type 0 where
   pub batches : List (List Op)
   pub logs : List ℕ
 
--- the one that published batches join; while the store boots it has no log
+-- the one that published batches join; from an opening or a resume on it has no log until that clears
 pub record Active : Type 0 where
   pub batches : List (List Op)
   pub log : Option SegmentLog
@@ -157,7 +157,7 @@ pub record Slot (J : Type 0) : Type 0 where
   pub number : ℕ
   pub running : Option J
 
--- a boot, and how many steps it has made
+-- a boot or a resume, and how many steps it has made
 pub record Resumption : Type 0 where
   pub steps : ℕ
   pub job : Job
@@ -166,6 +166,8 @@ pub record Jobs : Type 0 where
   pub write : Slot Group
   pub flush : Slot FlushJob
   pub resume : Slot Resumption
+  -- a resume was asked for, has the slot's number, and hasn't made a call yet
+  pub started : Bool
 
 -- the next file, the manifest in use with what a crash may leave of manifests, and the last op that is in a table
 pub record Numbers : Type 0 where

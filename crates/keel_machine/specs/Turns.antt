@@ -18,6 +18,7 @@ use Rattle.keel_machine.specs.declared.answers.Got.{Got}
 use Rattle.keel_machine.specs.declared.answers.Outcome.{Outcome}
 use Rattle.keel_machine.specs.declared.answers.Scanned.{Scanned}
 use Rattle.keel_machine.specs.declared.answers.LevelsView.{LevelsView}
+use Rattle.keel_machine.specs.declared.answers.Start.{Start}
 use Rattle.keel_machine.specs.declared.steps.JobStep.{JobStep}
 use Rattle.keel_machine.specs.declared.steps.ResumeStep.{ResumeStep}
 use Rattle.keel_machine.specs.declared.steps.WriteStep.{WriteStep}
@@ -27,6 +28,7 @@ use Rattle.keel_machine.specs.Flushing.{FlushAnswers, flush_after}
 use Rattle.keel_machine.specs.Opening.{Found, OpenAnswers, open_after, finished}
 use Rattle.keel_machine.specs.Reads.{GetAnswers, ScanAnswers}
 use Rattle.keel_machine.specs.Resuming.{ResumeAnswers, resume_after}
+use Rattle.keel_machine.specs.Starting.{StartAnswers, start_after}
 use Rattle.keel_machine.specs.States.{State, with_device}
 use Rattle.keel_machine.specs.Telling.{ArrangeAnswers, levels_view}
 use Rattle.keel_machine.specs.WritingAfter.{WriteAnswers, write_after}
@@ -37,7 +39,7 @@ pub data Event : Type 0 where
   Opening : Options → Result Found OpenRefusal → Event
   Admitting : Batch → Admit → Event
   Writing : Option ℕ → WriteStep → Event
-  -- with the tables that the boot has before it
+  -- with the tables that the job has before it
   Resuming : List Draft → Option ℕ → ResumeStep → Event
   -- with the table that the job makes
   Flushing : Draft → Option ℕ → JobStep → Event
@@ -50,6 +52,8 @@ pub data Event : Type 0 where
   Arranging : Rule → Result Bool OutOfMemory → Event
   -- what was picked, and what is left of the story, where anything is known of it
   Crashing : Pick → Option ℕ → Event
+  -- a resume is asked for
+  Starting : Start → Event
   Finishing : Event
 
 -- the files of the directory with their sizes, in the order of their printed names
@@ -73,6 +77,7 @@ Answers s (TellingError standing_error) device = (standing_error ≡ standing s)
 Answers s (TellingLevels view) device = (view ≡ levels_view s) × (device ≡ s.device)
 Answers s (Arranging rule answer) device = ArrangeAnswers s rule answer device
 Answers s (Crashing pick kept) device = CrashAnswers s pick kept device
+Answers s (Starting start) device = StartAnswers s start × (device ≡ s.device)
 Answers s Finishing device = device ≡ s.device
 
 -- the state behind the call, but for the device
@@ -90,6 +95,7 @@ behind s (TellingError standing_error) = s
 behind s (TellingLevels view) = s
 behind s (Arranging rule answer) = s
 behind s (Crashing pick kept) = crash_after s kept
+behind s (Starting start) = start_after s start
 behind s Finishing = finished s
 
 -- the state behind the call, with what the device then shows

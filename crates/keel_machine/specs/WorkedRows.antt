@@ -27,7 +27,12 @@ use Rattle.keel_base.specs.Points.{origin}
 use Rattle.keel_resume.specs.Plans.{Act as BootAct}
 use Rattle.keel_resume.specs.Plans as plans
 use Rattle.keel_machine.specs.Writing.{ready, write_rest, call_of}
-use Rattle.keel_machine.specs.WritingAfter.{call_done}
+use Rattle.keel_machine.specs.WritingAfter.{call_done, noted}
+use Rattle.keel_machine.specs.Starting.{start_after, start_answer}
+use Rattle.keel_machine.specs.declared.answers.Start.TheVariants as start
+use Rattle.keel_base.specs.declared.failure.Failure.{Failure}
+use Rattle.keel_base.specs.declared.failure.Fault.TheVariants.{Retryable}
+use Rattle.keel_base.specs.declared.failure.Reason.TheVariants.{Wal}
 
 abbrev pub answer_ok : State → Group → List Act → WriteStep
 answer_ok s group [] = Idle
@@ -61,30 +66,30 @@ synced_put key value = record { ops = op.Put (key ∷ []) (value ∷ []) ∷ [];
 
 -- ---- a boot
 
-abbrev pub boot_answer : State → Resumption → List BootAct → ResumeStep
-boot_answer s running [] = resume.Idle
-boot_answer s running (act ∷ []) = resume.Cleared (resume_ready [] s).jobs.resume.number (running.steps + 1)
-boot_answer s running (act ∷ next ∷ later) = resume.Moved (resume_ready [] s).jobs.resume.number (plans.call_of act)
+abbrev pub resume_answer : State → Resumption → List BootAct → ResumeStep
+resume_answer ready running [] = resume.Idle
+resume_answer ready running (act ∷ []) = resume.Cleared ready.jobs.resume.number (running.steps + 1)
+resume_answer ready running (act ∷ next ∷ later) = resume.Moved ready.jobs.resume.number (plans.call_of act)
 
-abbrev pub boot_answer_of : State → Option Resumption → ResumeStep
-boot_answer_of s None = resume.Idle
-boot_answer_of s (Some running) = boot_answer s running (plans.left_of running.job)
+abbrev pub resume_answer_of : State → Option Resumption → ResumeStep
+resume_answer_of ready None = resume.Idle
+resume_answer_of ready (Some running) = resume_answer ready running (plans.left_of running.job)
 
-abbrev pub boot_out : State → Option ResumeStep → ResumeStep × State
-boot_out s (Some rest) = (rest, s)
-boot_out s None = (boot_answer_of s (resume_ready [] s).jobs.resume.running, boot_done (resume_ready [] s).jobs.resume.running (resume_ready [] s))
+abbrev pub resume_out : State → State → Option ResumeStep → ResumeStep × State
+resume_out s ready (Some rest) = (rest, s)
+resume_out s ready None = (resume_answer_of ready ready.jobs.resume.running, boot_done ready.jobs.resume.running ready)
 
--- a resume step whose call is answered Ok, with the state behind it; the boot has no table to make
-abbrev pub boot_played : State → ResumeStep × State
-boot_played s = boot_out s (resume_rest s [] None)
+-- a resume step whose call is answered Ok, with the state behind it; its job makes these tables
+abbrev pub resume_played : List Draft → State → ResumeStep × State
+resume_played drafts s = resume_out s (resume_ready drafts s) (resume_rest s drafts None)
 
-abbrev pub boot_answers : ℕ → State → List ResumeStep
-boot_answers zero s = []
-boot_answers (suc n) s = (boot_played s).0 ∷ boot_answers n (boot_played s).1
+abbrev pub resume_answers : ℕ → List Draft → State → List ResumeStep
+resume_answers zero drafts s = []
+resume_answers (suc n) drafts s = (resume_played drafts s).0 ∷ resume_answers n drafts (resume_played drafts s).1
 
-abbrev pub behind_boot_steps : ℕ → State → State
-behind_boot_steps zero s = s
-behind_boot_steps (suc n) s = behind_boot_steps n (boot_played s).1
+abbrev pub behind_resume_steps : ℕ → List Draft → State → State
+behind_resume_steps zero drafts s = s
+behind_resume_steps (suc n) drafts s = behind_resume_steps n drafts (resume_played drafts s).1
 
 -- a store in an empty directory that was just opened, as the first of a run
 abbrev pub new_store : State → State
@@ -98,7 +103,7 @@ new_store s = record {
   levels = [];
   writing = record { waiting = []; outcomes = []; last_ticket = 0 };
   failing = record { failures = [] };
-  jobs = record { write = idle_slot; flush = idle_slot; resume = idle_slot };
+  jobs = record { write = idle_slot; flush = idle_slot; resume = idle_slot; started = false };
   numbers = record { next_file = 1; manifest = named_at_opening None 0; in_tables = 0 };
 }
 
@@ -107,14 +112,14 @@ abbrev pub FirstBoot : Type 0
 FirstBoot =
     (s : State) → let s1 : State = new_store s in
     (refusal s1 (synced_put 97 49) ≡ Some admit.Booting)
-    × (boot_answers 11 s1 ≡
+    × (resume_answers 11 [] s1 ≡
     resume.Moved 1 call.Create ∷ resume.Moved 1 call.SyncDir ∷ resume.Moved 1 call.Create ∷ resume.Moved 1 call.Append ∷ resume.Moved 1 call.Sync
     ∷ resume.Moved 1 call.Create ∷ resume.Moved 1 call.Append ∷ resume.Moved 1 call.Sync ∷ resume.Moved 1 call.Rename ∷ resume.Cleared 1 10
     ∷ resume.Idle ∷ [])
 
 -- that store, whose boot has cleared
 abbrev pub booted_store : State → State
-booted_store s = behind_boot_steps 10 (new_store s)
+booted_store s = behind_resume_steps 10 [] (new_store s)
 
 -- ---- puts
 
@@ -200,3 +205,26 @@ FirstFlush =
     ∷ job_step.Moved 1 call.Append ∷ job_step.Done 1 ∷ job_step.Idle ∷ [])
     × (refusal (behind_flush_steps 6 one_row s2) plain_put ≡ Some (admit.Full 18 1))
     × (refusal (behind_flush_steps 7 one_row s2) plain_put ≡ None)
+
+-- ---- a resume
+
+-- a sync of a log failed, in a way that may pass
+abbrev pub sync_failed : Failure
+sync_failed = record { reason = Wal; fault = Retryable }
+
+-- Behind a put and a failed write a resume makes a table of the put, then a log and a manifest as a boot does. Until its last
+-- call no batch is taken.
+abbrev pub FirstResume : Type 0
+FirstResume =
+    (s : State) → let s1 : State = noted sync_failed (behind_steps 2 (queued (synced_put 97 49) (booted_store s))) in
+    let s2 : State = start_after s1 (start_answer s1) in
+    let s3 : State = behind_resume_steps 14 (one_row ∷ []) s2 in
+    (start_answer (booted_store s) ≡ start.Nothing)
+    × (start_answer s1 ≡ start.Started 2)
+    × (start_answer s2 ≡ start.Busy 2)
+    × (resume_answers 15 (one_row ∷ []) s2 ≡
+    resume.Moved 2 call.Create ∷ resume.Moved 2 call.Append ∷ resume.Moved 2 call.Append ∷ resume.Moved 2 call.Sync ∷ resume.Moved 2 call.Create
+    ∷ resume.Moved 2 call.SyncDir ∷ resume.Moved 2 call.Create ∷ resume.Moved 2 call.Append ∷ resume.Moved 2 call.Sync ∷ resume.Moved 2 call.Create
+    ∷ resume.Moved 2 call.Append ∷ resume.Moved 2 call.Sync ∷ resume.Moved 2 call.Rename ∷ resume.Cleared 2 14 ∷ resume.Idle ∷ [])
+    × (refusal s2 plain_put ≡ Some (admit.Stopped sync_failed))
+    × (refusal s3 plain_put ≡ None)

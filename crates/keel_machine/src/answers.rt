@@ -48,6 +48,23 @@ pub enum Outcome {
     Unknown,
 }
 
+/// What became of a call that asks for a resume. Only `Cleared` and `Started` change anything.
+#[derive(Clone, Copy, Debug)]
+pub enum Start {
+    /// Neither writes nor background work are stopped.
+    Nothing,
+    /// The boot or resume of this number was started already and isn't over.
+    Busy { job: u64 },
+    /// This failure stands, and it is too severe for a resume.
+    Beyond(Failure),
+    /// The failure that stood stopped background work alone, and is forgotten.
+    Cleared,
+    /// This counter would pass its end.
+    Spent(Counter),
+    /// A resume has this number, and its calls are made by resume steps. The group in flight and the flush are cancelled.
+    Started { job: u64 },
+}
+
 /// What a key has.
 #[derive(Debug, Drop)]
 pub enum Got {

@@ -1,7 +1,7 @@
 // Facts of the machine, each as the contract of a function.
 ghost use Rattle.keel_machine.specs.BootLength.{BootEnds};
 ghost use Rattle.keel_machine.specs.Laws.{FailureStops, FullQueueStops, LogFailureStops, ManifestFailureStops, OneCallAFlush, OneCallAStep, StoppedWorkRests, StopsAtTwo};
-ghost use Rattle.keel_machine.specs.WorkedRows.{FirstBoot, FirstFlush, FirstPut, FullQueue, FullSegment, SecondPut};
+ghost use Rattle.keel_machine.specs.WorkedRows.{FirstBoot, FirstFlush, FirstPut, FirstResume, FullQueue, FullSegment, SecondPut};
 
 /// A write step makes one changing call of the device at most.
 pub fn one_call_a_step()
@@ -43,7 +43,7 @@ pub fn full_queue_stops()
     ensures { FullQueueStops }
 {}
 
-/// A boot none of whose steps fails, rests or wants memory clears: with ten calls, and for each table that it makes three and
+/// A boot or a resume none of whose steps fails, rests or wants memory clears: with ten calls, and for each table that it makes three and
 /// one for each block.
 pub fn boot_ends()
     ensures { BootEnds }
@@ -77,4 +77,9 @@ pub fn full_segment()
 /// The calls of a flush, and that the store isn't full behind it.
 pub fn first_flush()
     ensures { FirstFlush }
+{}
+
+/// The calls of a resume behind a failed write, which makes a table of what was published.
+pub fn first_resume()
+    ensures { FirstResume }
 {}

@@ -12,7 +12,7 @@ mod answers;
 pub mod laws;
 mod steps;
 
-pub use answers::{Admit, Got, LevelView, LevelsView, Outcome, Part, Scanned};
+pub use answers::{Admit, Got, LevelView, LevelsView, Outcome, Part, Scanned, Start};
 pub use steps::{JobStep, ResumeStep, WriteStep};
 
 #[cfg(test)]

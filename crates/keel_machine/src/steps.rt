@@ -26,17 +26,17 @@ pub enum WriteStep {
 /// What a resume step did.
 #[derive(Clone, Copy, Debug)]
 pub enum ResumeStep {
-    /// No boot is under way, and none is to begin.
+    /// No boot or resume is under way, and none is to begin.
     Idle,
-    /// The boot of this number made this call, and has others before it.
+    /// The boot or resume of this number made this call, and has others before it.
     Moved { job: u64, call: Call },
-    /// The boot made its last call, with so many steps in all: writes are taken from now on.
+    /// It made its last call, with so many steps in all: no failure stands, and writes are taken from now on.
     Cleared { job: u64, steps: u64 },
-    /// The boot's call failed, and the boot is over.
+    /// Its call failed, and it is over.
     Failed(Failure),
-    /// The boot would draw a number past its end.
+    /// It would draw a number past its end.
     Spent(Counter),
-    /// The caller holds another number than the boot that is or was last under way.
+    /// The caller holds another number than the boot or resume that is or was last under way.
     Cancelled { job: u64, current: u64 },
     OutOfMemory,
 }

@@ -17,4 +17,5 @@ fn the_laws_hold() {
     laws::full_queue();
     laws::full_segment();
     laws::first_flush();
+    laws::first_resume();
 }

@@ -18,7 +18,8 @@ use Rattle.keel_group.specs.Queue.{Ticketed}
 use Rattle.keel_machine.specs.States.{State, Story, SegmentLog, Segment, Group, Act, SyncLog, point_of, handed, published}
 use Rattle.keel_recovery.specs.Calls.{point_handed, CanGrow, grown}
 use Rattle.keel_recovery.specs.Keeping.{Keeps}
-use Rattle.keel_recovery.specs.Machine.{ops_waiting, AreOnTheirWay, HasLog}
+use Rattle.keel_recovery.specs.Machine.{HasLog}
+use Rattle.keel_recovery.specs.Waiting.{AreOnTheirWay, ops_waiting}
 use Rattle.keel_recovery.specs.Roots.{point_at}
 use Rattle.keel_recovery.proofs.FlushKept.{flush_on, longer_last, longer_same}
 use Rattle.keel_recovery.proofs.Following.{point_stays, same_all}

@@ -1,7 +1,7 @@
 -- The device of an open store bears out what reads say.
 use Rattle.std.specs.Prelude.{option_map}
 use Rattle.std.specs.List.{AllByRecursion, flat_map}
-use Rattle.std.proofs.Common.{◌≡◌, ℕ, ◌+◌, Bool, true, List, [], ◌∷◌, ◌++◌, length, take, drop, Option, Some, None, refl, sym, ap, subst, ◌∙◌, arith, append_assoc, take-append-drop}
+use Rattle.std.proofs.Common.{◌≡◌, ℕ, ◌+◌, Bool, true, List, [], ◌∷◌, ◌++◌, length, take, drop, Option, Some, None, refl, sym, ap, subst, ◌∙◌, ⊎_elim, arith, append_assoc, take-append-drop}
 use Rattle.std.proofs.lemmas.List.{append-nil, length-append, take_at, take-append-le, drop-append-le}
 use Rattle.keel_base.specs.declared.file_name.FileName.{FileName}
 use Rattle.keel_base.specs.declared.file_name.FileName.TheVariants.{Table}
@@ -23,11 +23,11 @@ use Rattle.keel_directory.specs.TableFiles.{TableFile, Opens, table_rows}
 use Rattle.keel_machine.specs.Admission.{stopping}
 use Rattle.keel_machine.specs.Reads.{BearsOut, rows_of, segment_rows, all_segments, contents}
 use Rattle.keel_machine.specs.Resuming.{batches_in}
-use Rattle.keel_machine.specs.States.{State, Footing, Known, Unknown, Phase, Shut, Booting, Open, SegmentLog, Segment, is_open, is_left, entries_in, point_of}
-use Rattle.keel_recovery.specs.BootCalls.{joined}
+use Rattle.keel_machine.specs.States.{State, Footing, Known, Unknown, Phase, Shut, Booting, Open, Active, SegmentLog, Segment, is_open, is_left, entries_in, point_of}
+use Rattle.keel_recovery.specs.BootCalls.{BootKept, joined}
 use Rattle.keel_recovery.specs.Booting.{IsOldTable}
 use Rattle.keel_recovery.specs.Chains.{Chained, batches_of}
-use Rattle.keel_recovery.specs.Machine.{IsKept, IsBootingStore, KeptBy, IsCoveredBy, CoveredBears, HasLog, HoldsBy, AreFull}
+use Rattle.keel_recovery.specs.Machine.{IsKept, KeptBy, IsCoveredBy, CoveredBears, HasLog, HoldsBy, AreFull}
 use Rattle.keel_recovery.specs.Roots.{AreFirmTables, point_at}
 use Rattle.keel_recovery.proofs.Following.{batches_push}
 use Rattle.keel_recovery.proofs.Numbering.{folded_append}
@@ -37,10 +37,10 @@ use Rattle.keel_recovery.proofs.Showing.{read_once}
 use Rattle.keel_draft.specs.Drafts.{batch_rows, count_ops}
 
 -- what reads ask of the state of a device
-record Bears (state : Disk) (s : State) : Type 0 where
-  tables : AllByRecursion (λ (table : TableFile). Opens (image_read state) table.entry table) s.levels
-  said : AllByRecursion (IsAsSaid s.numbers.in_tables) s.levels
-  says : IsMapOf (rows_of s) (contents s)
+pub record Bears (state : Disk) (s : State) : Type 0 where
+  pub tables : AllByRecursion (λ (table : TableFile). Opens (image_read state) table.entry table) s.levels
+  pub said : AllByRecursion (IsAsSaid s.numbers.in_tables) s.levels
+  pub says : IsMapOf (rows_of s) (contents s)
 
 once_read : (state : Disk) → IsOneToOne state → AreNamedOnce (image_read state)
 once_read state one = read_once (length state.files) state.files (directory_read state) (read_own state one)
@@ -63,7 +63,7 @@ segment_rows_are seq (batches ∷ segments) =
     ap (λ (l : List Row). batch_rows (seq + 1) batches ++ l) (segment_rows_are (seq + count_ops batches) segments ∙ ap (λ (n : ℕ). batch_rows n (joined segments)) e)
     ∙ sym (batch_rows_append (seq + 1) batches (joined segments))
 
-joined_push : (segments : List (List (List Op))) (last : List (List Op)) → joined (segments ++ last ∷ []) ≡ joined segments ++ last
+pub joined_push : (segments : List (List (List Op))) (last : List (List Op)) → joined (segments ++ last ∷ []) ≡ joined segments ++ last
 joined_push [] last = append-nil last
 joined_push (batches ∷ segments) last = ap (λ (l : List (List Op)). batches ++ l) (joined_push segments last) ∙ sym (append_assoc batches (joined segments) last)
 
@@ -72,15 +72,14 @@ joined_push (batches ∷ segments) last = ap (λ (l : List (List Op)). batches +
 boot_tables : (bound : ℕ) (state : Disk) (levels : List TableFile) → AllByRecursion (IsOldTable bound state) levels → AllByRecursion (λ (table : TableFile). Opens (image_read state) table.entry table) levels
 boot_tables bound state [] h = tt
 boot_tables bound state (table ∷ levels) h =
-    (record { entry = refl; there = held_read state (Table table.entry.number) h.0.file table.bytes h.0.present.named h.0.held; opens = h.0.opens }, boot_tables bound state levels h.1)
+    (record { entry = refl; there = held_read state (Table table.entry.number) h.0.file table.bytes (steady_read (Table table.entry.number) h.0.file state h.0.steady) h.0.held; opens = h.0.opens }, boot_tables bound state levels h.1)
 
-boot_bears : (state : Disk) (s : State) → IsBootingStore state s → Bears state s
-boot_bears state s h =
-    let k = h.kept in
+pub boot_bears : (state : Disk) (s : State) → BootKept s state → Bears state s
+boot_bears state s k =
     let segments = batches_in s.segments.immutable in
     let none : segment_rows s.numbers.in_tables (all_segments s) ≡ segment_rows s.numbers.in_tables segments =
     segment_rows_are s.numbers.in_tables (all_segments s)
-    ∙ ap (batch_rows (s.numbers.in_tables + 1)) (joined_push segments s.segments.active.batches ∙ ap (λ (l : List (List Op)). joined segments ++ l) k.none_active ∙ append-nil (joined segments))
+    ∙ ap (batch_rows (s.numbers.in_tables + 1)) (joined_push segments s.segments.active.batches ∙ ap (λ (a : Active). joined segments ++ a.batches) k.none_active ∙ append-nil (joined segments))
     ∙ sym (segment_rows_are s.numbers.in_tables segments) in
     record {
       tables = boot_tables k.bound state s.levels k.booting.tables;
@@ -97,13 +96,13 @@ firm_tables state (table ∷ levels) h = (
   firm_tables state levels h.1,
 )
 
-full_batches : (immutable : List Segment) (full : List Chained) → AreFull immutable full → batches_of full ≡ joined (batches_in immutable)
+pub full_batches : (immutable : List Segment) (full : List Chained) → AreFull immutable full → batches_of full ≡ joined (batches_in immutable)
 full_batches [] [] h = refl
 full_batches [] (_ ∷ _) h = absurd h
 full_batches (_ ∷ _) [] h = absurd h
 full_batches (segment ∷ immutable) (log ∷ full) h = λ i. h.1 i ++ full_batches immutable full h.2 i
 
-same_front : (xs ys rest : List (List Op)) → xs ++ rest ≡ ys ++ rest → xs ≡ ys
+pub same_front : (xs ys rest : List (List Op)) → xs ++ rest ≡ ys ++ rest → xs ≡ ys
 same_front xs ys rest e =
     let long : length xs ≡ length ys = omega (arith, ap length e, length-append xs rest, length-append ys rest) in
     sym (take_at xs rest (length xs) refl) ∙ ap (take (length xs)) e ∙ take_at ys rest (length xs) (sym long)
@@ -136,7 +135,7 @@ log_bears log state s one h =
           (map_folds (flat_map table_rows s.levels) base (segments ++ active) live.say.map (said_known base.seq s.levels live.say.said)));
     }
 
-kept_bears : (state : Disk) (s : State) → IsKept state s → Bears state s
+pub kept_bears : (state : Disk) (s : State) → IsKept state s → Bears state s
 kept_bears state s h = by s.segments.active.log h.stored
   where
     by : (o : Option SegmentLog)
@@ -148,8 +147,8 @@ kept_bears state s h = by s.segments.active.log h.stored
 
 bears_by : (phase : Phase) (left : Bool) (state : Disk) (s : State) → is_open phase ≡ true → KeptBy phase left state s → Bears state s
 bears_by Shut left state s opens h = cc
-bears_by Booting left state s opens h = boot_bears state s h
-bears_by Open left state s opens h = kept_bears state s h
+bears_by Booting left state s opens h = boot_bears state s h.kept
+bears_by Open left state s opens h = ⊎_elim (λ kept. kept_bears state s kept) (λ taken. boot_bears state s taken.kept) h
 
 told_bears : (f : Footing) (o : Option Told) (s : State) → f ≡ Known → o ≡ s.device.told → is_open s.mode.phase ≡ true → IsCoveredBy f s.mode o s → BearsOut s
 told_bears Unknown o s known is opens h = cc

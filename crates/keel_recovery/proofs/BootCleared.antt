@@ -1,16 +1,13 @@
 -- The last call of a boot, answered Ok: CURRENT names the new manifest for good, and the store's tables have all batches.
-use Rattle.std.proofs.Common.{◌≡◌, ℕ, zero, suc, ◌+◌, ◌≤◌, List, [], ◌∷◌, ◌++◌, length, option_map, ◌-◌, take, drop, Option, Some, None, unwrap_or, refl, sym, ap, subst, ◌∙◌, inl, inr, arith, append-nil}
+use Rattle.std.proofs.Common.{◌≡◌, ℕ, ◌+◌, ◌≤◌, List, [], ◌∷◌, length, option_map, ◌-◌, take, drop, Option, Some, None, unwrap_or, refl, sym, ap, subst, ◌∙◌, inl, inr, arith, append-nil}
 use Rattle.std.proofs.lemmas.Bool.{le-leb}
-use Rattle.keel_base.specs.declared.file_name.FileName.{FileName}
 use Rattle.keel_base.specs.declared.file_name.FileName.TheVariants.{Current, Log, Manifest}
-use Rattle.keel_base.specs.declared.op.Op.{Op}
 use Rattle.keel_base.specs.Points.{Point}
 use Rattle.keel_disk.specs.declared.change.Change.TheVariants.{SyncDir}
 use Rattle.keel_disk.specs.declared.state.File.{File}
-use Rattle.keel_disk.specs.declared.state.Operation.{Operation}
-use Rattle.keel_disk.specs.Directory.{find, operated_all}
+use Rattle.keel_disk.specs.Directory.{find}
 use Rattle.keel_disk.specs.Sound.{IsOneToOne}
-use Rattle.keel_disk.specs.State.{State as Disk, file_at, file_of, new_file, settled_through}
+use Rattle.keel_disk.specs.State.{State as Disk, file_at, new_file, settled_through}
 use Rattle.keel_disk.specs.Step.{DiskStep}
 use Rattle.keel_disk.specs.Steady.{IsGoing, file_behind}
 use Rattle.keel_disk.proofs.Staying.{one_stays}
@@ -30,23 +27,19 @@ use Rattle.keel_resume.specs.Plans.{Job, Rolls, edit_of}
 use Rattle.keel_version.specs.Tables.{Contents, nothing}
 use Rattle.keel_recovery.specs.Booting.{IsBooting}
 use Rattle.keel_recovery.specs.BootCalls.{AreAllFixed, AreFixed, AreNewLogs, AreRising, BootKept, HasMadeSo, IsFixedLog, IsMade}
-use Rattle.keel_recovery.specs.BootLaws.{IsAfterCrash}
 use Rattle.keel_recovery.specs.BootRoll.{Gives, contents_behind, levels_behind}
 use Rattle.keel_recovery.specs.BootTurns.{IsCleared}
 use Rattle.keel_recovery.specs.Calls.{AllReach, CanGrow}
 use Rattle.keel_recovery.specs.Chains.{Chained, HoldsRecords, size_of_first}
 use Rattle.keel_recovery.specs.Flushes.{HasFlush}
 use Rattle.keel_recovery.specs.Keeping.{Keeps, HoldStory}
-use Rattle.keel_recovery.specs.Roots.{AllGo, AllRoots, Goes, IsRoot, IsWay, Say, Way, first_from, version_behind, BeginsAt}
+use Rattle.keel_recovery.specs.Roots.{AllGo, AllRoots, Goes, IsRoot, IsWay, Say, Way, first_from, point_at, version_behind, BeginsAt}
 use Rattle.keel_recovery.proofs.BootLast.{settled_boot}
 use Rattle.keel_recovery.proofs.BootMoved.{made_way}
+use Rattle.keel_recovery.proofs.BootNames.{behind_none, take_none}
 use Rattle.keel_recovery.proofs.BootRollTurns.{each_apart}
 use Rattle.keel_recovery.proofs.BootRooted.{point_whole, roll_root, tables_firm}
 use Rattle.keel_recovery.proofs.BootSteps.{all_fixed_stay, made_stays, sync_dir_done}
-
-take_none : {A : Type 0} (count : ℕ) → take {A = A} count [] ≡ []
-take_none zero = refl
-take_none (suc count) = refl
 
 dropped_whole : {A : Type 0} (xs : List A) → drop (length xs) xs ≡ []
 dropped_whole [] = refl
@@ -54,12 +47,6 @@ dropped_whole (x ∷ xs) = dropped_whole xs
 
 some_one : {A : Type 0} {x y : A} → Some x ≡ Some y → x ≡ y
 some_one e = cc
-
--- where nothing waits, all directories are the one that is firm
-behind_none : (count : ℕ) (name : FileName) (state : Disk) → state.waiting ≡ [] → file_behind count name state ≡ file_of name state
-behind_none count name state none =
-    ap (λ (ops : List Operation). find name (operated_all (take count ops) state.firm)) none
-    ∙ (ap (λ (ops : List Operation). find name (operated_all ops state.firm)) (take_none count) ∙ sym (ap (λ (ops : List Operation). find name (operated_all ops state.firm)) none))
 
 -- the log of a story whose batches are all in tables
 abbrev empty_log : ℕ → Story → Chained
@@ -80,14 +67,20 @@ new_holds lasting shown file is = record {
   read_to = omega (arith, no_record shown);
 }
 
-module _ (bound : ℕ) (levels : List TableFile) (story : Story) (next : ℕ) (job : Job) (state : Disk) (one : IsOneToOne state) (crash : IsAfterCrash story) (booting : IsBooting bound levels story next state)
+module _ (bound : ℕ) (old : Disk) (levels : List TableFile) (story : Story) (next : ℕ) (job : Job) (state : Disk) (booting : IsBooting bound old levels story next state)
     (parts : AreAllFixed bound job next state) (rising : AreRising job.progress.tables next) (last_is : job.last_seq ≡ (point_of story).seq) (gives : Gives levels story job parts.log next) (none_waits : state.waiting ≡ [])
     (m : ℕ) (manifest : IsMade bound (Manifest m) (record_bytes 0 (spelling (edit_of job next))) state) (current : IsMade bound Current (current_of m) state) where
   abbrev way : Way
   way = record { manifest = m; file = manifest.file; edits = edit_of job next ∷ []; firm = 1 }
 
+  abbrev all_in : Story
+  all_in = cleared_story story
+
   abbrev log : Chained
-  log = empty_log parts.log story
+  log = empty_log parts.log all_in
+
+  all_whole : point_at (length story.log) all_in ≡ point_of story
+  all_whole = point_whole all_in (record { none_in_limbo = refl; all_stay = refl })
 
   one_of : (count : ℕ) → 1 ≤ count → count ≤ 1 → 1 ≡ count
   one_of count least most = omega (arith, least, most)
@@ -107,36 +100,36 @@ module _ (bound : ℕ) (levels : List TableFile) (story : Story) (next : ℕ) (j
   go : AllGo (way ∷ []) state
   go count = (way, inl refl, is_way, goes count)
 
-  root : IsRoot (edit_of job next ∷ []) (log ∷ []) story next state
-  root = roll_root bound levels story next job state one crash booting parts rising last_is gives (log ∷ []) (begins_there parts.log story)
+  root : IsRoot (edit_of job next ∷ []) (log ∷ []) all_in next state
+  root = roll_root bound old levels story next job state booting parts rising last_is gives (log ∷ []) (begins_there parts.log all_in)
 
-  roots : AllRoots (way ∷ []) (log ∷ []) story next state
-  roots other (inl is) = subst (λ (w : Way). (count : ℕ) → w.firm ≤ count → count ≤ length w.edits → IsRoot (take count w.edits) (log ∷ []) story next state) (sym is)
-      (λ count least most. subst (λ n. IsRoot (take n (edit_of job next ∷ [])) (log ∷ []) story next state) (one_of count least most) root)
+  roots : AllRoots (way ∷ []) (log ∷ []) all_in next state
+  roots other (inl is) = subst (λ (w : Way). (count : ℕ) → w.firm ≤ count → count ≤ length w.edits → IsRoot (take count w.edits) (log ∷ []) all_in next state) (sym is)
+      (λ count least most. subst (λ n. IsRoot (take n (edit_of job next ∷ [])) (log ∷ []) all_in next state) (one_of count least most) root)
   roots other (inr is) = absurd is
 
-  stored : HoldStory (length story.log) (log ∷ []) story state
+  stored : HoldStory (length story.log) (log ∷ []) all_in state
   stored = record {
-    in_turn = (refl, sym (ap (λ (p : Point). p.seq) (point_whole story crash)), tt);
-    batches_are = ap (λ (l : List (List Op)). drop (length story.log) (story.log ++ l)) crash.none_in_limbo ∙ (ap (drop (length story.log)) (append-nil story.log) ∙ dropped_whole story.log);
+    in_turn = (refl, sym (ap (λ (p : Point). p.seq) all_whole), tt);
+    batches_are = ap (drop (length story.log)) (append-nil story.log) ∙ dropped_whole story.log;
     limits = tt;
     place_within = omega arith;
-    floor_within = omega (arith, crash.all_stay);
+    floor_within = omega arith;
     chained = (
-      record { file = parts.log_fixed.file; steady = parts.log_fixed.steady; holds = new_holds (story.floor - length story.log) (length story.log - length story.log) (file_at parts.log_fixed.file state.files) parts.log_fixed.is_new },
+      record { file = parts.log_fixed.file; steady = parts.log_fixed.steady; holds = new_holds (length story.log - length story.log) (length story.log - length story.log) (file_at parts.log_fixed.file state.files) parts.log_fixed.is_new },
       tt,
       inl tt,
       tt,
     );
   }
 
-  pub keeps_cleared : Keeps (way ∷ []) (length story.log) (log ∷ []) (levels_behind levels job) story next state
+  pub keeps_cleared : Keeps (way ∷ []) (length story.log) (log ∷ []) (levels_behind levels job) all_in next state
   keeps_cleared = record {
     go = go;
     roots = roots;
     live = record {
-      firm = tables_firm bound levels story next job state one crash booting parts rising last_is gives;
-      say = subst (λ (p : Point). Say p.seq (levels_behind levels job) p) (sym (point_whole story crash)) (subst (λ n. Say n (levels_behind levels job) (point_of story)) last_is gives.say);
+      firm = tables_firm bound old levels story next job state booting parts rising last_is gives;
+      say = subst (λ (p : Point). Say p.seq (levels_behind levels job) p) (sym all_whole) (subst (λ n. Say n (levels_behind levels job) (point_of story)) last_is gives.say);
     };
     stored = stored;
     drawn = booting.drawn;
@@ -210,8 +203,8 @@ module _ (s : State) (running : Resumption) (state after : Disk) (one : IsOneToO
   none_waits : after.waiting ≡ []
   none_waits = ap (λ (d : Disk). d.waiting) is ∙ dropped_whole state.waiting
 
-  booting : IsBooting kept.bound s.levels s.story next after
-  booting = settled_boot kept.bound s.levels s.story next state after one kept.booting None step (length state.waiting) is
+  booting : IsBooting kept.bound kept.old s.levels s.story next after
+  booting = settled_boot kept.bound kept.old s.levels s.story next state after one kept.booting None step (length state.waiting) is
 
   later : (count n : ℕ) → file_behind count (Log n) after ≡ file_behind (length state.waiting + count) (Log n) state
   later count n = ap (file_behind count (Log n)) is ∙ ap (λ (d : Disk). find (Log n) d.firm) (settled_twice (length state.waiting) count state)
@@ -236,30 +229,21 @@ module _ (s : State) (running : Resumption) (state after : Disk) (one : IsOneToO
   current_after : IsMade kept.bound Current (current_of m) after
   current_after = made_stays state after SyncDir (as_answer None) one step kept.bound Current (current_of m) tt current
 
-  -- nothing was in limbo, and nothing was to be lost
-  same_story : s.story ≡ cleared_story s.story
-  same_story i = record { start = s.story.start; log = s.story.log; limbo = kept.after.none_in_limbo i; floor = kept.after.all_stay i }
-
-  abbrev all_kept : Keeps (way kept.bound s.levels s.story next running.job after one_after kept.after booting parts_after made.rising made.last_is gives none_waits m manifest_after current_after ∷ [])
-      (length s.story.log) (empty_log parts.log s.story ∷ []) (levels_behind s.levels running.job) s.story next after
-  all_kept = keeps_cleared kept.bound s.levels s.story next running.job after one_after kept.after booting parts_after made.rising made.last_is gives none_waits m manifest_after current_after
-
-  abbrev the_way : Way
-  the_way = way kept.bound s.levels s.story next running.job after one_after kept.after booting parts_after made.rising made.last_is gives none_waits m manifest_after current_after
+  abbrev all_in_tables : Story
+  all_in_tables = cleared_story s.story
 
   pub clears : IsCleared (act_done (Rolls SyncDirectory) running [] s) after
   clears = record {
-    way = way kept.bound s.levels s.story next running.job after one_after kept.after booting parts_after made.rising made.last_is gives none_waits m manifest_after current_after;
+    way = way kept.bound kept.old s.levels s.story next running.job after booting parts_after made.rising made.last_is gives none_waits m manifest_after current_after;
     log = parts.log;
     log_is = ap (option_map new_log) parts.log_is;
-    keeps = subst (λ (story : Story). Keeps (way kept.bound s.levels s.story next running.job after one_after kept.after booting parts_after made.rising made.last_is gives none_waits m manifest_after current_after ∷ [])
-        (length story.log) (empty_log parts.log story ∷ []) (levels_behind s.levels running.job) story next after) same_story all_kept;
-    grows = subst (λ (story : Story). CanGrow [] (empty_log parts.log story) 0 after) same_story
-        (grows_cleared kept.bound s.levels s.story next running.job after one_after kept.after booting parts_after made.rising made.last_is gives none_waits m manifest_after current_after);
-    reach = reach_cleared kept.bound s.levels s.story next running.job after one_after kept.after booting parts_after made.rising made.last_is gives none_waits m manifest_after current_after;
-    flushes = subst (λ (story : Story). HasFlush the_way (levels_behind s.levels running.job) (point_of story).seq (empty_log parts.log story ∷ []) None None next (act_done (Rolls SyncDirectory) running [] s).numbers.manifest after) same_story
-        (subst (λ (n : ℕ). HasFlush the_way (levels_behind s.levels running.job) n (empty_log parts.log s.story ∷ []) None None next (act_done (Rolls SyncDirectory) running [] s).numbers.manifest after) made.last_is
-        (flushes_cleared kept.bound s.levels s.story next running.job after one_after kept.after booting parts_after made.rising made.last_is gives none_waits m manifest_after current_after
+    keeps = keeps_cleared kept.bound kept.old s.levels s.story next running.job after booting parts_after made.rising made.last_is gives none_waits m manifest_after current_after;
+    uncut = booting.uncut;
+    grows = grows_cleared kept.bound kept.old s.levels s.story next running.job after booting parts_after made.rising made.last_is gives none_waits m manifest_after current_after;
+    reach = reach_cleared kept.bound kept.old s.levels s.story next running.job after booting parts_after made.rising made.last_is gives none_waits m manifest_after current_after;
+    flushes = subst (λ (n : ℕ). HasFlush (way kept.bound kept.old s.levels s.story next running.job after booting parts_after made.rising made.last_is gives none_waits m manifest_after current_after)
+        (levels_behind s.levels running.job) n (empty_log parts.log all_in_tables ∷ []) None None next (act_done (Rolls SyncDirectory) running [] s).numbers.manifest after) made.last_is
+        (flushes_cleared kept.bound kept.old s.levels s.story next running.job after booting parts_after made.rising made.last_is gives none_waits m manifest_after current_after
         (act_done (Rolls SyncDirectory) running [] s).numbers.manifest
-        (ap (λ (number : ℕ). Some (record { number = number; edits = 1; progress = Firm (length (record_bytes 0 (spelling (edit_of running.job next)))) })) (ap (λ (o : Option ℕ). unwrap_or o 0) manifest_is))));
+        (ap (λ (number : ℕ). Some (record { number = number; edits = 1; progress = Firm (length (record_bytes 0 (spelling (edit_of running.job next)))) })) (ap (λ (o : Option ℕ). unwrap_or o 0) manifest_is)));
   }

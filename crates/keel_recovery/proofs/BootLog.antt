@@ -51,10 +51,10 @@ module _ (s : State) (running : Resumption) (state after : Disk) (one : IsOneToO
   -- ---- the log is made
 
   module _ (at : AtTables kept.bound running.job state) (rest_is : at.rest ≡ []) where
-    log_on : (failed_ : Option Fault) → DiskStep state (Create (Log next)) (as_answer failed_) after → KeptOn kept.bound s.levels s.story (next + 1) state after
+    log_on : (failed_ : Option Fault) → DiskStep state (Create (Log next)) (as_answer failed_) after → KeptOn kept.bound kept.old s.levels s.story (next + 1) after
     log_on failed_ step =
-        create_keeps kept.bound s.levels s.story next state one kept.booting at.unmoved after failed_ (Log next) (next + 1)
-        (λ count file is. absurd (omega (arith, kept.booting.drawn count file (Log next) is))) (λ is. cc) (λ n is. cc) (λ none n is. cc) (omega arith) (omega arith) step
+        create_keeps kept.bound kept.old s.levels s.story next state one kept.booting at.unmoved after failed_ (Log next) (next + 1)
+        (λ count file is. absurd (omega (arith, kept.booting.drawn count file (Log next) is))) (λ is. cc) (λ n is. cc) (λ before none n is. cc) (omega arith) (omega arith) step
 
     new_logs : DiskStep state (Create (Log next)) (as_answer None) after → AreNewLogs kept.bound next after
     new_logs step count n file over is =
@@ -81,9 +81,10 @@ module _ (s : State) (running : Resumption) (state after : Disk) (one : IsOneToO
     pub make_log : next < 2 ^ 56 → (later : List Act) (next_act : Act) (behind : List Act) → left_of running.job ≡ MakeLog ∷ later → later ≡ SyncLogName ∷ roll_acts → DiskStep state (Create (Log next)) (as_answer None) after
         → BootKept (act_done MakeLog running (next_act ∷ behind) s) after
     make_log fits later next_act behind left later_is step =
-        goes_on s state after kept at.unmoved (next + 1) _ (one_more MakeLog next running) (omega arith) (log_on None step) (record {
-          tables = record { are = made.tables.are; few = made.tables.few };
+        goes_on s state after kept (next + 1) _ (one_more MakeLog next running) (omega arith) (log_on None step) (record {
+          tables = record { are = made.tables.are; some = made.tables.some; few = made.tables.few };
           live_is = made.live_is;
+          unstarted = made.unstarted;
           last_is = made.last_is;
           rising = rising_on running.job.progress.tables next (next + 1) (omega arith) made.rising;
           over = made.over;
@@ -91,13 +92,13 @@ module _ (s : State) (running : Resumption) (state after : Disk) (one : IsOneToO
         })
 
     pub make_log_failed : (fault : Fault) → DiskStep state (Create (Log next)) (as_answer (Some fault)) after → BootKept (act_failed MakeLog running.job (failure_of MakeLog fault) s) after
-    make_log_failed fault step = is_over s state after kept at.unmoved (next + 1) _ (failure_of MakeLog fault) (omega arith) (log_on (Some fault) step)
+    make_log_failed fault step = is_over s state after kept (next + 1) _ (failure_of MakeLog fault) (omega arith) (log_on (Some fault) step)
 
   -- ---- its name gets firm
 
   module _ (at : AtLogName kept.bound running.job next state) where
-    name_on : (failed_ : Option Fault) → DiskStep state SyncDir (as_answer failed_) after → KeptOn kept.bound s.levels s.story next state after
-    name_on failed_ step = sync_dir_keeps kept.bound s.levels s.story next state one kept.booting at.unmoved after failed_ step
+    name_on : (failed_ : Option Fault) → DiskStep state SyncDir (as_answer failed_) after → KeptOn kept.bound kept.old s.levels s.story next after
+    name_on failed_ step = sync_dir_keeps kept.bound kept.old s.levels s.story next state one kept.booting at.unmoved after failed_ step
 
     logs_later : DiskStep state SyncDir (as_answer None) after → AreNewLogs kept.bound at.log after
     logs_later step count n file over is =
@@ -124,9 +125,10 @@ module _ (s : State) (running : Resumption) (state after : Disk) (one : IsOneToO
     pub sync_log_name : (later : List Act) (next_act : Act) (behind : List Act) → left_of running.job ≡ SyncLogName ∷ later → later ≡ roll_acts → DiskStep state SyncDir (as_answer None) after
         → BootKept (act_done SyncLogName running (next_act ∷ behind) s) after
     sync_log_name later next_act behind left later_is step =
-        goes_on s state after kept at.unmoved next _ (one_more SyncLogName next running) (omega arith) (name_on None step) (record {
-          tables = record { are = made.tables.are; few = made.tables.few };
+        goes_on s state after kept next _ (one_more SyncLogName next running) (omega arith) (name_on None step) (record {
+          tables = record { are = made.tables.are; some = made.tables.some; few = made.tables.few };
           live_is = made.live_is;
+          unstarted = made.unstarted;
           last_is = made.last_is;
           rising = made.rising;
           over = made.over;
@@ -139,4 +141,4 @@ module _ (s : State) (running : Resumption) (state after : Disk) (one : IsOneToO
         })
 
     pub sync_log_name_failed : (fault : Fault) → DiskStep state SyncDir (as_answer (Some fault)) after → BootKept (act_failed SyncLogName running.job (failure_of SyncLogName fault) s) after
-    sync_log_name_failed fault step = is_over s state after kept at.unmoved next _ (failure_of SyncLogName fault) (omega arith) (name_on (Some fault) step)
+    sync_log_name_failed fault step = is_over s state after kept next _ (failure_of SyncLogName fault) (omega arith) (name_on (Some fault) step)

@@ -1,9 +1,7 @@
 -- The calls of a boot that make its tables and its log.
-use Rattle.std.proofs.Common.{◌≡◌, ℕ, zero, suc, ◌≤◌, List, [], ◌∷◌, ◌++◌, map, drop, Some, None, sym, ap, ◌∙◌, arith, append_assoc, add-one}
+use Rattle.std.proofs.Common.{◌≡◌, ℕ, zero, suc, ◌≤◌, List, [], ◌∷◌, ◌++◌, map, drop, Some, None, ap, ◌∙◌, arith, append_assoc, add-one}
 use Rattle.std.specs.List.{flat_map}
 use Rattle.keel_base.specs.declared.failure.Failure.{Failure}
-use Rattle.keel_base.specs.declared.file_name.FileName.TheVariants.{Current}
-use Rattle.keel_disk.specs.Directory.{find}
 use Rattle.keel_disk.specs.State.{State as Disk}
 use Rattle.keel_machine.specs.Resuming.{with_numbers, with_resumption}
 use Rattle.keel_manifest.specs.State.{ManifestState}
@@ -12,7 +10,7 @@ use Rattle.keel_machine.specs.WritingAfter.{noted}
 use Rattle.keel_draft.specs.Drafts.{Draft, pieces_in}
 use Rattle.keel_resume.proofs.Steps.{handed_made}
 use Rattle.keel_resume.specs.Plans.{Job, Act, MakeTable, AddPiece, SyncTable, left_of, log_acts, moved, plan_of, roll_acts, table_acts}
-use Rattle.keel_recovery.specs.BootCalls.{BootKept, HasMadeSo, IsUnmoved}
+use Rattle.keel_recovery.specs.BootCalls.{BootKept, HasMadeSo}
 use Rattle.keel_recovery.proofs.BootKeeps.{KeptOn}
 
 pub some_none : {A P : Type 0} (x : A) → Some x ≡ None → P
@@ -42,38 +40,38 @@ plan_cons draft rest =
 
 -- ---- a boot goes on, or is over
 
-module _ (s : State) (state after : Disk) (kept : BootKept s state) (was : IsUnmoved kept.bound state) where
+module _ (s : State) (state after : Disk) (kept : BootKept s state) where
   -- with what it has made then
-  pub goes_on : (next : ℕ) (manifest : ManifestState) (running : Resumption) → s.numbers.next_file ≤ next → KeptOn kept.bound s.levels s.story next state after
+  pub goes_on : (next : ℕ) (manifest : ManifestState) (running : Resumption) → s.numbers.next_file ≤ next → KeptOn kept.bound kept.old s.levels s.story next after
       → HasMadeSo kept.bound (with_resumption (Some running) (with_numbers next manifest s)) running.job after → BootKept (with_resumption (Some running) (with_numbers next manifest s)) after
   goes_on next manifest running more on made = record {
     bound = kept.bound;
     booting = on.booting;
-    after = kept.after;
+    old = kept.old;
     numbered = omega (arith, kept.numbered, more);
-    bare = λ unmoved none. kept.bare was (ap (find Current) (sym on.firm) ∙ none);
+    floor_within = kept.floor_within;
+    bare = kept.bare;
     facts = kept.facts;
-    unbegun = λ none not_running. absurd (some_none running not_running);
     runs = made;
     none_active = kept.none_active;
-    none_waits = kept.none_waits;
+    waits = kept.waits;
     no_group = kept.no_group;
     no_flush = kept.no_flush;
   }
 
   -- behind a failure
-  pub is_over : (next : ℕ) (manifest : ManifestState) (failure : Failure) → s.numbers.next_file ≤ next → KeptOn kept.bound s.levels s.story next state after → BootKept (noted failure (with_resumption None (with_numbers next manifest s))) after
+  pub is_over : (next : ℕ) (manifest : ManifestState) (failure : Failure) → s.numbers.next_file ≤ next → KeptOn kept.bound kept.old s.levels s.story next after → BootKept (noted failure (with_resumption None (with_numbers next manifest s))) after
   is_over next manifest failure more on = record {
     bound = kept.bound;
     booting = on.booting;
-    after = kept.after;
+    old = kept.old;
     numbered = omega (arith, kept.numbered, more);
-    bare = λ unmoved none. kept.bare was (ap (find Current) (sym on.firm) ∙ none);
+    floor_within = kept.floor_within;
+    bare = kept.bare;
     facts = kept.facts;
-    unbegun = λ none. absurd (not_empty s.failing.failures failure none);
     runs = tt;
     none_active = kept.none_active;
-    none_waits = kept.none_waits;
+    waits = kept.waits;
     no_group = kept.no_group;
     no_flush = kept.no_flush;
   }

@@ -1,13 +1,11 @@
 -- A boot goes on behind its move: CURRENT may name the new manifest then, which leads to the story.
 use Rattle.std.proofs.Common.{◌≡◌, ℕ, ◌≤◌, false, List, [], ◌∷◌, length, map, take, Some, None, Result, refl, sym, ap, subst, ◌∙◌, inl, inr, arith, ⊎_elim, append-nil}
-use Rattle.std.proofs.Math.Seq.{take-length}
 use Rattle.keel_base.specs.declared.failure.Fault.{Fault}
 use Rattle.keel_base.specs.declared.file_name.FileName.TheVariants.{Current, Log, Table, Manifest, Temp}
 use Rattle.keel_disk.specs.declared.change.Change.{Change}
 use Rattle.keel_disk.specs.declared.change.Change.TheVariants.{Rename}
 use Rattle.keel_disk.specs.declared.error.DiskError.{DiskError}
 use Rattle.keel_disk.specs.declared.state.File.{File}
-use Rattle.keel_disk.specs.declared.state.Operation.{Operation}
 use Rattle.keel_disk.specs.declared.state.Operation.TheVariants.{Move}
 use Rattle.keel_disk.specs.Directory.{find, operated_all}
 use Rattle.keel_disk.specs.State.{State as Disk, directory_read, file_of, has_waiting_cut}
@@ -24,7 +22,7 @@ use Rattle.keel_edit.specs.Spelling.{spelling, IsEdit}
 use Rattle.keel_frag.specs.Writing.{record_bytes, records_bytes}
 use Rattle.keel_name.specs.Current.{current_of}
 use Rattle.keel_machine.specs.Outside.{as_answer}
-use Rattle.keel_machine.specs.Resuming.{act_done, act_failed, one_more}
+use Rattle.keel_machine.specs.Resuming.{act_done, act_failed, cleared_story}
 use Rattle.keel_machine.specs.States.{State, Story, Resumption}
 use Rattle.keel_manifest.specs.declared.roll.RollCall.{RollCall}
 use Rattle.keel_manifest.specs.declared.roll.RollCall.TheVariants.{Rename as RenameCall, SyncDirectory}
@@ -34,7 +32,7 @@ use Rattle.keel_recovery.specs.BootCalls.{AreAllFixed, AreNewLogs, BootKept, Has
 use Rattle.keel_recovery.specs.BootRoll.{Gives}
 use Rattle.keel_recovery.specs.Chains.{OthersEmpty}
 use Rattle.keel_recovery.specs.Roots.{AreFirmTables, IsRoot, IsWay}
-use Rattle.keel_recovery.proofs.BootMaking.{left_moved, is_over, not_empty, some_none}
+use Rattle.keel_recovery.proofs.BootMaking.{left_moved, is_over}
 use Rattle.keel_recovery.proofs.BootMoving.{renamed, rename_done, rename_failed, moved_dir, dir_behind, found_before, current_moved, current_of_read}
 use Rattle.keel_recovery.proofs.BootMoveTurn.{kept_moved, renamed_step}
 use Rattle.keel_recovery.proofs.BootRollTurns.{parts_stay}
@@ -101,16 +99,19 @@ module _ (s : State) (running : Resumption) (state after : Disk) (one : IsOneToO
   held_temp = (temporary.file, temporary.present.named, temporary.newer)
 
   step_there : DiskStep state (Rename (Temp m) Current) (as_answer None) there
-  step_there = renamed_step kept.bound s.levels s.story next state one kept.booting unmoved m held_temp
+  step_there = renamed_step kept.bound kept.old s.levels s.story next state one kept.booting unmoved m held_temp
 
   logs_there : AreNewLogs kept.bound parts.log there
   logs_there count n file over is = let before = found_before m state count file (Log n) refl refl is in parts.logs before.0 n file over before.1
 
-  root : IsRoot (edit_of running.job next ∷ []) [] s.story next state
-  root = roll_root kept.bound s.levels s.story next running.job state one kept.after kept.booting parts made.rising made.last_is gives [] refl
+  abbrev all_in : Story
+  all_in = cleared_story s.story
 
-  root_there : IsRoot (edit_of running.job next ∷ []) [] s.story next there
-  root_there = root_stays (edit_of running.job next ∷ []) s.story next state there root
+  root : IsRoot (edit_of running.job next ∷ []) [] all_in next state
+  root = roll_root kept.bound kept.old s.levels s.story next running.job state kept.booting parts made.rising made.last_is gives [] refl
+
+  root_there : IsRoot (edit_of running.job next ∷ []) [] all_in next there
+  root_there = root_stays (edit_of running.job next ∷ []) all_in next state there root
       (firm_stay state there (Rename (Temp m) Current) (as_answer None) one step_there (λ n. (refl, refl)) root.version.tables root.tables root.firm)
       (λ count n file over other is. let before = found_before m state count file (Log n) refl refl is in root.others before.0 n file over other before.1)
 
@@ -129,7 +130,7 @@ module _ (s : State) (running : Resumption) (state after : Disk) (one : IsOneToO
   temp_uncut : has_waiting_cut temporary.file there.waiting ≡ false
   temp_uncut = cut-append temporary.file state.waiting (Move (Temp m) Current ∷ []) temporary.present.not_cut refl
 
-  all_moved : (count : ℕ) → operated_all (take count there.waiting) state.firm ≡ moved_dir m state → IsRoll count s.story next there
+  all_moved : (count : ℕ) → operated_all (take count there.waiting) state.firm ≡ moved_dir m state → IsRoll count all_in next there
   all_moved count is = record {
     way = record { manifest = m; file = manifest_there.file; edits = edit_of running.job next ∷ []; firm = 1 };
     is_way = made_way kept.bound m (edit_of running.job next) there gives.is_edit manifest_there;
@@ -144,12 +145,12 @@ module _ (s : State) (running : Resumption) (state after : Disk) (one : IsOneToO
     root = root_there;
   }
 
-  rolls_there : (count current : ℕ) → file_behind count Current there ≡ Some current → kept.bound ≤ current → IsRoll count s.story next there
+  rolls_there : (count current : ℕ) → file_behind count Current there ≡ Some current → kept.bound ≤ current → IsRoll count all_in next there
   rolls_there count current is newer =
       ⊎_elim (λ same. absurd (unmoved count current (subst (λ d. find Current d ≡ Some current) same is) newer)) (λ all. all_moved count all) (dir_behind m state count)
 
-  booting_there : IsBooting kept.bound s.levels s.story next there
-  booting_there = kept_moved kept.bound s.levels s.story next state one kept.booting unmoved m held_temp kept.numbered rolls_there
+  booting_there : IsBooting kept.bound kept.old s.levels s.story next there
+  booting_there = kept_moved kept.bound kept.old s.levels s.story next state one kept.booting unmoved m held_temp kept.numbered rolls_there
 
   -- CURRENT as read is the new file
   current_there : IsMade kept.bound Current (current_of m) there
@@ -161,25 +162,21 @@ module _ (s : State) (running : Resumption) (state after : Disk) (one : IsOneToO
     clean = temporary.clean;
   }
 
-  not_unmoved : IsUnmoved kept.bound there → ⊥
-  not_unmoved none =
-      none (length there.waiting) temporary.file
-      (ap (λ (ops : List Operation). find Current (operated_all ops state.firm)) (take-length there.waiting) ∙ current_of_read m state temporary.file temporary.present.named) temporary.newer
-
   pub move_on : (next_act : Act) (behind : List Act) (rolls : List RollCall) → left_of running.job ≡ Rolls RenameCall ∷ map Rolls (SyncDirectory ∷ rolls) → DiskStep state (Rename (Temp m) Current) (as_answer None) after
       → BootKept (act_done (Rolls RenameCall) running (next_act ∷ behind) s) after
   move_on next_act behind rolls left step =
       subst (BootKept (act_done (Rolls RenameCall) running (next_act ∷ behind) s)) (sym (rename_done m state after temporary.file temporary.present.named step)) (record {
         bound = kept.bound;
         booting = booting_there;
-        after = kept.after;
+        old = kept.old;
+        floor_within = kept.floor_within;
         numbered = kept.numbered;
-        bare = λ none. absurd (not_unmoved none);
+        bare = kept.bare;
         facts = kept.facts;
-        unbegun = λ none not_running. absurd (some_none (one_more (Rolls RenameCall) next running) not_running);
         runs = record {
-          tables = record { are = made.tables.are; few = made.tables.few };
+          tables = record { are = made.tables.are; some = made.tables.some; few = made.tables.few };
           live_is = made.live_is;
+          unstarted = made.unstarted;
           last_is = made.last_is;
           rising = made.rising;
           over = made.over;
@@ -192,7 +189,7 @@ module _ (s : State) (running : Resumption) (state after : Disk) (one : IsOneToO
           })));
         };
         none_active = kept.none_active;
-        none_waits = kept.none_waits;
+        waits = kept.waits;
         no_group = kept.no_group;
         no_flush = kept.no_flush;
       })
@@ -201,14 +198,14 @@ module _ (s : State) (running : Resumption) (state after : Disk) (one : IsOneToO
   moved_over fault = record {
     bound = kept.bound;
     booting = booting_there;
-    after = kept.after;
+    old = kept.old;
+    floor_within = kept.floor_within;
     numbered = kept.numbered;
-    bare = λ none. absurd (not_unmoved none);
+    bare = kept.bare;
     facts = kept.facts;
-    unbegun = λ none. absurd (not_empty s.failing.failures (failure_of (Rolls RenameCall) fault) none);
     runs = tt;
     none_active = kept.none_active;
-    none_waits = kept.none_waits;
+    waits = kept.waits;
     no_group = kept.no_group;
     no_flush = kept.no_flush;
   }
@@ -217,6 +214,6 @@ module _ (s : State) (running : Resumption) (state after : Disk) (one : IsOneToO
   move_failed fault step =
       elim (rename_failed m state after temporary.file fault temporary.present.named step) [
         | inl same ↦ subst (BootKept (act_failed (Rolls RenameCall) running.job (failure_of (Rolls RenameCall) fault) s)) (sym same)
-            (is_over s state state kept unmoved next _ (failure_of (Rolls RenameCall) fault) (omega arith) (record { booting = kept.booting; unmoved = unmoved; firm = refl }))
+            (is_over s state state kept next _ (failure_of (Rolls RenameCall) fault) (omega arith) (record { booting = kept.booting; unmoved = unmoved }))
         | inr moved_ ↦ subst (BootKept (act_failed (Rolls RenameCall) running.job (failure_of (Rolls RenameCall) fault) s)) (sym moved_) (moved_over fault)
       ]

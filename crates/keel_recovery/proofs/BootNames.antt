@@ -1,18 +1,19 @@
--- The names of a booting store's directories: those that were there at the opening, and those that were made since.
-use Rattle.std.proofs.Common.{◌≡◌, ◌⊎◌, ℕ, true, false, List, [], ◌∷◌, Option, Some, None, refl, sym, ap, subst, ◌∙◌, inl, inr, nat_le, if◌then◌else◌}
-use Rattle.std.specs.List.{AllByRecursion}
+-- The names of directories: those of files that were there when a job began, and those of files that were made since.
+use Rattle.std.proofs.Common.{◌≡◌, ℕ, zero, suc, ◌≤◌, ◌||◌, true, false, List, [], ◌∷◌, Some, None, take, drop, refl, sym, ap, subst, ◌∙◌, nat_le, arith, eq-eqb, if◌then◌else◌}
+use Rattle.std.proofs.lemmas.Bool.{le-leb, leb-true}
 use Rattle.keel_base.specs.declared.file_name.FileName.{FileName}
-use Rattle.keel_base.specs.declared.file_name.FileName.TheVariants.{Current, Temp, Log, Table, Trash, Manifest}
 use Rattle.keel_base.specs.Name.{name_eq}
+use Rattle.keel_base.proofs.Names.{name_eq-true}
+use Rattle.keel_disk.specs.declared.state.File.{File}
 use Rattle.keel_disk.specs.declared.state.Operation.{Operation}
 use Rattle.keel_disk.specs.declared.state.Operation.TheVariants.{Link, Move, Unlink, Shorten}
-use Rattle.keel_disk.specs.Directory.{Named, find, unlinked, linked, linked_found, operated, operated_all}
+use Rattle.keel_disk.specs.Directory.{Named, find, unlinked, linked, operated_all}
 use Rattle.keel_disk.specs.Sound.{AreOwn}
+use Rattle.keel_disk.specs.State.{State as Disk, file_of, files_operated_all, has_waiting_cut}
+use Rattle.keel_disk.specs.Steady.{file_behind}
 use Rattle.keel_disk.proofs.Operating.{find-unlinked}
 use Rattle.keel_disk.proofs.Owning.{find-unlinked_same}
-use Rattle.keel_base.proofs.Names.{name_eq-true}
-use Rattle.std.proofs.lemmas.Bool.{le-leb}
-use Rattle.keel_recovery.specs.Booting.{below, IsNewer}
+use Rattle.keel_recovery.specs.Booting.{below}
 
 some_none : {A P : Type 0} (x : A) → Some x ≡ None → P
 some_none x e = cc
@@ -58,7 +59,7 @@ found_below bound name file (entry ∷ rest) found older =
           ]
     ] refl found
 
--- ---- directories behind newer operations
+-- ---- directories that have a further name
 
 -- what is not there is not there without another name
 pub absent_without : (name other : FileName) (directory : Named ℕ) → find name directory ≡ None → find name (unlinked other directory) ≡ None
@@ -68,121 +69,8 @@ absent_without name other directory none =
       | false ↦ λ apart. find-unlinked name other directory apart ∙ none
     ] refl
 
--- the older files have the names that they had; or CURRENT has a newer file, and the older ones have their other names
-abbrev pub IsOld : ℕ → Named ℕ → Named ℕ → Type 0
-IsOld bound old directory = below bound directory ≡ old
-
-pub record IsMovedIn (bound : ℕ) (old directory : Named ℕ) : Type 0 where
-  pub file : ℕ
-  pub current : find Current directory ≡ Some file
-  pub newer : nat_le bound file ≡ true
-  pub others : below bound directory ≡ unlinked Current old
-
-below_linked : (bound : ℕ) (name : FileName) (file : ℕ) (directory : Named ℕ) → nat_le bound file ≡ true → below bound (linked name file directory) ≡ unlinked name (below bound directory)
+pub below_linked : (bound : ℕ) (name : FileName) (file : ℕ) (directory : Named ℕ) → nat_le bound file ≡ true → below bound (linked name file directory) ≡ unlinked name (below bound directory)
 below_linked bound name file directory newer = rw newer (below_unlinked bound name directory)
-
-module _ (bound : ℕ) (old : Named ℕ) where
-  linked_old : (name : FileName) (file : ℕ) (directory : Named ℕ) → nat_le bound file ≡ true → find name old ≡ None → IsOld bound old directory → IsOld bound old (linked name file directory)
-  linked_old name file directory newer none is = below_linked bound name file directory newer ∙ (ap (unlinked name) is ∙ unlinked_same name old none)
-
-  find_linked_current : (name : FileName) (file : ℕ) (directory : Named ℕ) → nat_le bound file ≡ true → IsMovedIn bound old directory
-      → (found : ℕ) × (find Current (linked name file directory) ≡ Some found) × (nat_le bound found ≡ true)
-  find_linked_current name file directory newer is =
-      elim (name_eq name Current) as (λ b. name_eq name Current ≡ b → (found : ℕ) × ((if b then Some file else find Current (unlinked name directory)) ≡ Some found) × (nat_le bound found ≡ true)) [
-        | true ↦ λ same. (file, refl, newer)
-        | false ↦ λ apart. (is.file, find-unlinked Current name directory apart ∙ is.current, is.newer)
-      ] refl
-
-  linked_moved : (name : FileName) (file : ℕ) (directory : Named ℕ) → nat_le bound file ≡ true → find name old ≡ None → IsMovedIn bound old directory → IsMovedIn bound old (linked name file directory)
-  linked_moved name file directory newer none is =
-      let at = find_linked_current name file directory newer is in
-      record {
-        file = at.0;
-        current = at.1;
-        newer = at.2;
-        others = below_linked bound name file directory newer ∙ (ap (unlinked name) is.others ∙ unlinked_same name (unlinked Current old) (absent_without name Current old none));
-      }
-
-  moved_old : (n : ℕ) (directory : Named ℕ) (found : Option ℕ) → find (Temp n) directory ≡ found → find (Temp n) old ≡ None → IsOld bound old directory
-      → IsOld bound old (linked_found Current found (unlinked (Temp n) directory)) ⊎ IsMovedIn bound old (linked_found Current found (unlinked (Temp n) directory))
-  moved_old n directory None at none is = inl (below_unlinked bound (Temp n) directory ∙ (ap (unlinked (Temp n)) is ∙ unlinked_same (Temp n) old none))
-  moved_old n directory (Some file) at none is =
-      let rest : below bound (unlinked (Temp n) directory) ≡ old = below_unlinked bound (Temp n) directory ∙ (ap (unlinked (Temp n)) is ∙ unlinked_same (Temp n) old none) in
-      elim (nat_le bound file) as (λ b. nat_le bound file ≡ b → IsOld bound old (linked Current file (unlinked (Temp n) directory)) ⊎ IsMovedIn bound old (linked Current file (unlinked (Temp n) directory))) [
-        | true ↦ λ newer. inr (record {
-          file = file;
-          current = refl;
-          newer = newer;
-          others = below_linked bound Current file (unlinked (Temp n) directory) newer ∙ ap (unlinked Current) rest;
-        })
-        | false ↦ λ older. absurd (some_none file (sym (found_below bound (Temp n) file directory at older) ∙ (ap (find (Temp n)) is ∙ none)))
-      ] refl
-
-  moved_moved : (n : ℕ) (directory : Named ℕ) (found : Option ℕ) → find (Temp n) directory ≡ found → find (Temp n) old ≡ None → IsMovedIn bound old directory
-      → IsMovedIn bound old (linked_found Current found (unlinked (Temp n) directory))
-  moved_moved n directory found at none is =
-      let gone : find (Temp n) (unlinked Current old) ≡ None = absent_without (Temp n) Current old none in
-      let rest : below bound (unlinked (Temp n) directory) ≡ unlinked Current old =
-      below_unlinked bound (Temp n) directory ∙ (ap (unlinked (Temp n)) is.others ∙ unlinked_same (Temp n) (unlinked Current old) gone) in
-      elim found as (λ f. find (Temp n) directory ≡ f → IsMovedIn bound old (linked_found Current f (unlinked (Temp n) directory))) [
-        | None ↦ λ at. record { file = is.file; current = find-unlinked Current (Temp n) directory refl ∙ is.current; newer = is.newer; others = rest }
-        | (Some file) ↦ λ at. elim (nat_le bound file) as (λ b. nat_le bound file ≡ b → IsMovedIn bound old (linked Current file (unlinked (Temp n) directory))) [
-          | true ↦ λ newer. record {
-            file = file;
-            current = refl;
-            newer = newer;
-            others = below_linked bound Current file (unlinked (Temp n) directory) newer
-                ∙ (ap (unlinked Current) rest ∙ unlinked_same Current (unlinked Current old) (find-unlinked_same Current old));
-          }
-          | false ↦ λ older. absurd (some_none file (sym (found_below bound (Temp n) file directory at older) ∙ (ap (find (Temp n)) is.others ∙ gone)))
-        ] refl
-      ] at
-
-  operated_old : (operation : Operation) (directory : Named ℕ) → IsNewer bound old operation → IsOld bound old directory
-      → IsOld bound old (operated operation directory) ⊎ IsMovedIn bound old (operated operation directory)
-  operated_old (Link name file) directory newer is = inl (linked_old name file directory (le-leb bound file newer.0) newer.1 is)
-  operated_old (Move (Temp n) Current) directory newer is = moved_old n directory (find (Temp n) directory) refl newer is
-  operated_old (Move (Log m) to) directory newer is = absurd newer
-  operated_old (Move (Table m) to) directory newer is = absurd newer
-  operated_old (Move (Trash m) to) directory newer is = absurd newer
-  operated_old (Move (Manifest m) to) directory newer is = absurd newer
-  operated_old (Move Current to) directory newer is = absurd newer
-  operated_old (Move (Temp n) (Log m)) directory newer is = absurd newer
-  operated_old (Move (Temp n) (Table m)) directory newer is = absurd newer
-  operated_old (Move (Temp n) (Trash m)) directory newer is = absurd newer
-  operated_old (Move (Temp n) (Manifest m)) directory newer is = absurd newer
-  operated_old (Move (Temp n) (Temp m)) directory newer is = absurd newer
-  operated_old (Unlink name) directory newer is = absurd newer
-  operated_old (Shorten file size) directory newer is = absurd newer
-
-  operated_moved : (operation : Operation) (directory : Named ℕ) → IsNewer bound old operation → IsMovedIn bound old directory → IsMovedIn bound old (operated operation directory)
-  operated_moved (Link name file) directory newer is = linked_moved name file directory (le-leb bound file newer.0) newer.1 is
-  operated_moved (Move (Temp n) Current) directory newer is = moved_moved n directory (find (Temp n) directory) refl newer is
-  operated_moved (Move (Log m) to) directory newer is = absurd newer
-  operated_moved (Move (Table m) to) directory newer is = absurd newer
-  operated_moved (Move (Trash m) to) directory newer is = absurd newer
-  operated_moved (Move (Manifest m) to) directory newer is = absurd newer
-  operated_moved (Move Current to) directory newer is = absurd newer
-  operated_moved (Move (Temp n) (Log m)) directory newer is = absurd newer
-  operated_moved (Move (Temp n) (Table m)) directory newer is = absurd newer
-  operated_moved (Move (Temp n) (Trash m)) directory newer is = absurd newer
-  operated_moved (Move (Temp n) (Manifest m)) directory newer is = absurd newer
-  operated_moved (Move (Temp n) (Temp m)) directory newer is = absurd newer
-  operated_moved (Unlink name) directory newer is = absurd newer
-  operated_moved (Shorten file size) directory newer is = absurd newer
-
-  pub all_moved : (operations : List Operation) (directory : Named ℕ) → AllByRecursion (IsNewer bound old) operations → IsMovedIn bound old directory → IsMovedIn bound old (operated_all operations directory)
-  all_moved [] directory newer is = is
-  all_moved (operation ∷ rest) directory newer is = all_moved rest (operated operation directory) newer.1 (operated_moved operation directory newer.0 is)
-
-  pub all_old : (operations : List Operation) (directory : Named ℕ) → AllByRecursion (IsNewer bound old) operations → IsOld bound old directory
-      → IsOld bound old (operated_all operations directory) ⊎ IsMovedIn bound old (operated_all operations directory)
-  all_old [] directory newer is = inl is
-  all_old (operation ∷ rest) directory newer is =
-      elim (operated_old operation directory newer.0 is) [
-        | inl old_still ↦ all_old rest (operated operation directory) newer.1 old_still
-        | inr moved ↦ inr (all_moved rest (operated operation directory) newer.1 moved)
-      ]
 
 -- ---- names that are not there
 
@@ -214,3 +102,57 @@ newer_gone bound total name file (entry ∷ rest) own found newer =
             | false ↦ rw apart behind
           ]
     ] refl found
+
+-- no name has a file that isn't there
+pub all_below : (total : ℕ) (d : Named ℕ) → AreOwn total d → below total d ≡ d
+all_below total [] own = refl
+all_below total (entry ∷ rest) own =
+    elim (nat_le total entry.1) as (λ b. nat_le total entry.1 ≡ b → (if b then below total rest else entry ∷ below total rest) ≡ entry ∷ rest) [
+      | true ↦ λ newer. absurd (omega (arith, own.0.exists, leb-true total entry.1 newer))
+      | false ↦ λ older. ap (λ d. entry ∷ d) (all_below total rest own.1)
+    ] refl
+
+-- a newer file's name that no older one has changes nothing of the older ones
+pub linked_below : (bound : ℕ) (name : FileName) (file : ℕ) (directory : Named ℕ) → bound ≤ file → find name (below bound directory) ≡ None → below bound (linked name file directory) ≡ below bound directory
+linked_below bound name file directory newer none =
+    below_linked bound name file directory (le-leb bound file newer) ∙ unlinked_same name (below bound directory) none
+
+-- ---- operations without a cut
+
+cut_itself : {P : Type 0} (file size : ℕ) (rest : List Operation) → has_waiting_cut file (Shorten file size ∷ rest) ≡ false → P
+cut_itself file size rest none = absurd (never (sym (ap (λ b. b || has_waiting_cut file rest) (eq-eqb file file refl)) ∙ none))
+  where
+    never : true ≡ false → ⊥
+    never e = cc
+
+later_uncut : (operation : Operation) (rest : List Operation) → ((file : ℕ) → has_waiting_cut file (operation ∷ rest) ≡ false) → (file : ℕ) → has_waiting_cut file rest ≡ false
+later_uncut (Link name n) rest uncut file = uncut file
+later_uncut (Move from to) rest uncut file = uncut file
+later_uncut (Unlink name) rest uncut file = uncut file
+later_uncut (Shorten other size) rest uncut file = cut_itself other size rest (uncut other)
+
+pub files_uncut : (count : ℕ) (operations : List Operation) (files : List File) → ((file : ℕ) → has_waiting_cut file operations ≡ false) → files_operated_all (take count operations) files ≡ files
+files_uncut zero operations files uncut = refl
+files_uncut (suc count) [] files uncut = refl
+files_uncut (suc count) (Link name n ∷ rest) files uncut = files_uncut count rest files (later_uncut (Link name n) rest uncut)
+files_uncut (suc count) (Move from to ∷ rest) files uncut = files_uncut count rest files (later_uncut (Move from to) rest uncut)
+files_uncut (suc count) (Unlink name ∷ rest) files uncut = files_uncut count rest files (later_uncut (Unlink name) rest uncut)
+files_uncut (suc count) (Shorten other size ∷ rest) files uncut = cut_itself other size rest (uncut other)
+
+-- those behind some are without one, too
+pub dropped_uncut : (count : ℕ) (operations : List Operation) → ((file : ℕ) → has_waiting_cut file operations ≡ false) → (file : ℕ) → has_waiting_cut file (drop count operations) ≡ false
+dropped_uncut zero operations uncut = uncut
+dropped_uncut (suc count) [] uncut = uncut
+dropped_uncut (suc count) (operation ∷ rest) uncut = dropped_uncut count rest (later_uncut operation rest uncut)
+
+-- ---- a device where nothing waits
+
+pub take_none : {A : Type 0} (count : ℕ) → take {A = A} count [] ≡ []
+take_none zero = refl
+take_none (suc count) = refl
+
+-- where nothing waits, all directories are the one that is firm
+pub behind_none : (count : ℕ) (name : FileName) (state : Disk) → state.waiting ≡ [] → file_behind count name state ≡ file_of name state
+behind_none count name state none =
+    ap (λ (ops : List Operation). find name (operated_all (take count ops) state.firm)) none
+    ∙ (ap (λ (ops : List Operation). find name (operated_all ops state.firm)) (take_none count) ∙ sym (ap (λ (ops : List Operation). find name (operated_all ops state.firm)) none))

@@ -1,10 +1,8 @@
 -- A device at rest that was just opened keeps what a booting store keeps.
-use Rattle.std.proofs.Common.{◌≡◌, ℕ, ◌≤◌, ◌<◌, true, false, List, [], ◌∷◌, length, Option, Some, None, Result, Ok, Err, refl, sym, ap, subst, ◌∙◌, inr, arith, nat_le, if◌then◌else◌}
+use Rattle.std.proofs.Common.{◌≡◌, ℕ, ◌<◌, true, false, List, [], ◌∷◌, length, Option, Some, None, Result, Ok, Err, refl, sym, ap, subst, ◌∙◌, if◌then◌else◌}
 use Rattle.std.specs.List.{AllByRecursion}
-use Rattle.std.proofs.lemmas.Bool.{leb-true}
-use Rattle.std.proofs.Math.Seq.{take-length}
 use Rattle.keel_base.specs.declared.file_name.FileName.{FileName}
-use Rattle.keel_base.specs.declared.file_name.FileName.TheVariants.{Current, Log, Table, Trash}
+use Rattle.keel_base.specs.declared.file_name.FileName.TheVariants.{Current, Table}
 use Rattle.keel_base.specs.Name.{name_eq}
 use Rattle.keel_base.specs.Points.{Point}
 use Rattle.keel_disk.specs.declared.state.File.{File}
@@ -14,7 +12,7 @@ use Rattle.keel_disk.specs.State.{State, file_at, directory_read, has_waiting_cu
 use Rattle.keel_disk.specs.Steady.{IsHeld, file_behind}
 use Rattle.keel_disk.specs.Image.{AllFirm}
 use Rattle.keel_disk.specs.Plain.{bytes_read, image_read}
-use Rattle.keel_disk.specs.Sound.{AreOwn, IsAtRest}
+use Rattle.keel_disk.specs.Sound.{IsAtRest}
 use Rattle.keel_disk.proofs.Meaning.{rest_reads}
 use Rattle.keel_disk.proofs.Operating.{is_below}
 use Rattle.keel_edit.specs.declared.edit.Added.{Added}
@@ -26,8 +24,10 @@ use Rattle.keel_directory.specs.TableFiles.{TableFile, TablesAre, TablesGive, Al
 use Rattle.keel_machine.specs.Opening.{tables_in}
 use Rattle.keel_machine.specs.States.{Story}
 use Rattle.keel_open.specs.NextFiles.{number_in}
-use Rattle.keel_recovery.specs.Booting.{below, rest_of, IsNewer, IsOldTable, IsBooting}
+use Rattle.keel_recovery.specs.Booting.{IsOldTable, IsBooting}
 use Rattle.keel_recovery.specs.Standing.{Stands}
+use Rattle.keel_recovery.proofs.BootNames.{behind_none}
+use Rattle.keel_recovery.proofs.BootTaken.{just_taken}
 
 some_none : {A P : Type 0} (x : A) → Some x ≡ None → P
 some_none x e = cc
@@ -91,14 +91,6 @@ module _ (image : Named (List ℕ)) where
 
 -- ---- a device at rest
 
-all_below : (total : ℕ) (d : Named ℕ) → AreOwn total d → below total d ≡ d
-all_below total [] own = refl
-all_below total (entry ∷ rest) own =
-    elim (nat_le total entry.1) as (λ b. nat_le total entry.1 ≡ b → (if b then below total rest else entry ∷ below total rest) ≡ entry ∷ rest) [
-      | true ↦ λ newer. absurd (omega (arith, own.0.exists, leb-true total entry.1 newer))
-      | false ↦ λ older. ap (λ d. entry ∷ d) (all_below total rest own.1)
-    ] refl
-
 -- a file that reads find is firm, and has the bytes that they give
 read_found : (files : List File) (d : Named ℕ) (name : FileName) (bytes : List ℕ) → AllFirm files d → find name (bytes_read files d) ≡ Some bytes
     → (file : ℕ) × (find name d ≡ Some file) × IsHeld (file_at file files) bytes
@@ -127,16 +119,16 @@ module _ (state : State) (rest : IsAtRest state) where
   none_waits : state.waiting ≡ []
   none_waits = rest.settled.none_waits
 
-  none_newer : (count file : ℕ) (name : FileName) → file_behind count name state ≡ Some file → total ≤ file → {P : Type 0} → P
-  none_newer count file name is newer = absurd (omega (arith, newer, is_below total name file _ (rest.sound.one_to_one count) is))
-
   old_table : (table : TableFile) → Opens (image_read state) table.entry table → IsOldTable total state table
   old_table table opens =
       let found = read_found state.files (directory_read state) (Table table.entry.number) table.bytes
       (subst (λ (ops : List Operation). AllFirm state.files (operated_all ops state.firm)) (sym none_waits) rest.settled.firm) opens.there in
       record {
         file = found.0;
-        present = record { named = found.1; not_cut = ap (has_waiting_cut found.0) none_waits };
+        steady = record {
+          named = λ count. behind_none count (Table table.entry.number) state none_waits ∙ found.1;
+          not_cut = ap (has_waiting_cut found.0) none_waits;
+        };
         old = is_below total (Table table.entry.number) found.0 state.firm (rest.sound.one_to_one 0)
             (subst (λ (ops : List Operation). find (Table table.entry.number) (operated_all ops state.firm) ≡ Some found.0) none_waits found.1);
         held = found.2;
@@ -147,22 +139,7 @@ module _ (state : State) (rest : IsAtRest state) where
   old_tables [] opens = tt
   old_tables (table ∷ levels) opens = (old_table table opens.0, old_tables levels opens.1)
 
-  rest_same : rest_of total state ≡ state
-  rest_same = λ i. record { files = take-length state.files i; firm = all_below total state.firm (rest.sound.one_to_one 0) i; waiting = sym none_waits i }
-
   pub just_opened : (levels : List TableFile) (story : Story) (next_file : ℕ) → Stands state story → AllByRecursion (λ (table : TableFile). Opens (image_read state) table.entry table) levels
-      → ((count file : ℕ) (name : FileName) → file_behind count name state ≡ Some file → number_in name < next_file) → IsBooting total levels story next_file state
-  just_opened levels story next_file stands opens drawn = record {
-    within = omega arith;
-    old = inr (record {
-      stands = subst (λ s. Stands s story) (sym rest_same) stands;
-      no_table = λ none count n file is newer. none_newer count file (Table n) is newer;
-    });
-    newer = subst (AllByRecursion (IsNewer total (below total state.firm))) (sym none_waits) tt;
-    no_trash = λ count n file is newer. none_newer count file (Trash n) is newer;
-    logs_empty = λ count n file is newer. none_newer count file (Log n) is newer;
-    rolls = λ count current is newer. none_newer count current Current is newer;
-    tables = old_tables levels opens;
-    drawn = drawn;
-    read = rest_reads state rest;
-  }
+      → ((count file : ℕ) (name : FileName) → file_behind count name state ≡ Some file → number_in name < next_file) → IsBooting total state levels story next_file state
+  just_opened levels story next_file stands opens drawn =
+      just_taken levels story next_file state rest.sound.one_to_one (λ file. ap (has_waiting_cut file) none_waits) stands (rest_reads state rest) (old_tables levels opens) drawn

@@ -87,19 +87,20 @@ module _ (s : State) (running : Resumption) (state after : Disk) (one : IsOneToO
 
   -- ---- the manifest is made
 
-  manifest_on : (unmoved : IsUnmoved kept.bound state) (failed_ : Option Fault) → DiskStep state (Create (Manifest next)) (as_answer failed_) after → KeptOn kept.bound s.levels s.story (next + 1) state after
+  manifest_on : (unmoved : IsUnmoved kept.bound state) (failed_ : Option Fault) → DiskStep state (Create (Manifest next)) (as_answer failed_) after → KeptOn kept.bound kept.old s.levels s.story (next + 1) after
   manifest_on unmoved failed_ step =
-      create_keeps kept.bound s.levels s.story next state one kept.booting unmoved after failed_ (Manifest next) (next + 1)
-      (λ count file is. absurd (omega (arith, kept.booting.drawn count file (Manifest next) is))) (λ is. cc) (λ n is. cc) (λ none n is. cc) (omega arith) (omega arith) step
+      create_keeps kept.bound kept.old s.levels s.story next state one kept.booting unmoved after failed_ (Manifest next) (next + 1)
+      (λ count file is. absurd (omega (arith, kept.booting.drawn count file (Manifest next) is))) (λ is. cc) (λ n is. cc) (λ before none n is. cc) (omega arith) (omega arith) step
 
   pub make_manifest : (unmoved : IsUnmoved kept.bound state) → next < 2 ^ 56 → (next_act : Act) (behind : List Act) (rolls : List RollCall) → left_of running.job ≡ Rolls MakeManifest ∷ map Rolls (AppendEdit ∷ rolls)
       → DiskStep state (Create (Manifest next)) (as_answer None) after → BootKept (act_done (Rolls MakeManifest) running (next_act ∷ behind) s) after
   make_manifest unmoved fits next_act behind rolls left step =
       let on = manifest_on unmoved None step in
       let is = create_done (Manifest next) state after step in
-      goes_on s state after kept unmoved (next + 1) _ (one_more (Rolls MakeManifest) next running) (omega arith) on (record {
-        tables = record { are = made.tables.are; few = made.tables.few };
+      goes_on s state after kept (next + 1) _ (one_more (Rolls MakeManifest) next running) (omega arith) on (record {
+        tables = record { are = made.tables.are; some = made.tables.some; few = made.tables.few };
         live_is = made.live_is;
+        unstarted = made.unstarted;
         last_is = made.last_is;
         rising = rising_on running.job.progress.tables next (next + 1) (omega arith) made.rising;
         over = made.over;
@@ -120,23 +121,24 @@ module _ (s : State) (running : Resumption) (state after : Disk) (one : IsOneToO
       })
 
   pub make_manifest_failed : (unmoved : IsUnmoved kept.bound state) (fault : Fault) → DiskStep state (Create (Manifest next)) (as_answer (Some fault)) after → BootKept (act_failed (Rolls MakeManifest) running.job (failure_of (Rolls MakeManifest) fault) s) after
-  make_manifest_failed unmoved fault step = is_over s state after kept unmoved (next + 1) _ (failure_of (Rolls MakeManifest) fault) (omega arith) (manifest_on unmoved (Some fault) step)
+  make_manifest_failed unmoved fault step = is_over s state after kept (next + 1) _ (failure_of (Rolls MakeManifest) fault) (omega arith) (manifest_on unmoved (Some fault) step)
 
   -- ---- the edit is appended, and gets firm
 
   module _ (manifest : ℕ) (manifest_is : running.job.progress.manifest ≡ Some manifest) (less : manifest < next) (absent : IsAbsent (Temp manifest) state) (unmoved : IsUnmoved kept.bound state) where
     module _ (being : IsBeingMade kept.bound (Manifest manifest) [] state) where
-      edit_on : (failed_ : Option Fault) → DiskStep state (Append (Manifest manifest) edit_record) (as_answer failed_) after → KeptOn kept.bound s.levels s.story next state after
-      edit_on failed_ step = append_keeps kept.bound s.levels s.story next state one kept.booting unmoved after failed_ (Manifest manifest) [] edit_record being step
+      edit_on : (failed_ : Option Fault) → DiskStep state (Append (Manifest manifest) edit_record) (as_answer failed_) after → KeptOn kept.bound kept.old s.levels s.story next after
+      edit_on failed_ step = append_keeps kept.bound kept.old s.levels s.story next state one kept.booting unmoved after failed_ (Manifest manifest) [] edit_record being step
 
       pub append_edit : (next_act : Act) (behind : List Act) (rolls : List RollCall) → left_of running.job ≡ Rolls AppendEdit ∷ map Rolls (SyncManifest ∷ rolls)
           → DiskStep state (Append (Manifest manifest) edit_record) (as_answer None) after → BootKept (act_done (Rolls AppendEdit) running (next_act ∷ behind) s) after
       append_edit next_act behind rolls left step =
           let on = edit_on None step in
           let is = append_done (Manifest manifest) edit_record state after being.file being.present step in
-          goes_on s state after kept unmoved next _ (one_more (Rolls AppendEdit) next running) (omega arith) on (record {
-            tables = record { are = made.tables.are; few = made.tables.few };
+          goes_on s state after kept next _ (one_more (Rolls AppendEdit) next running) (omega arith) on (record {
+            tables = record { are = made.tables.are; some = made.tables.some; few = made.tables.few };
             live_is = made.live_is;
+            unstarted = made.unstarted;
             last_is = made.last_is;
             rising = made.rising;
             over = made.over;
@@ -157,20 +159,21 @@ module _ (s : State) (running : Resumption) (state after : Disk) (one : IsOneToO
           })
 
       pub append_edit_failed : (fault : Fault) → DiskStep state (Append (Manifest manifest) edit_record) (as_answer (Some fault)) after → BootKept (act_failed (Rolls AppendEdit) running.job (failure_of (Rolls AppendEdit) fault) s) after
-      append_edit_failed fault step = is_over s state after kept unmoved next _ (failure_of (Rolls AppendEdit) fault) (omega arith) (edit_on (Some fault) step)
+      append_edit_failed fault step = is_over s state after kept next _ (failure_of (Rolls AppendEdit) fault) (omega arith) (edit_on (Some fault) step)
 
     module _ (being : IsBeingMade kept.bound (Manifest manifest) edit_record state) where
-      firm_on : (failed_ : Option Fault) → DiskStep state (Sync (Manifest manifest)) (as_answer failed_) after → KeptOn kept.bound s.levels s.story next state after
-      firm_on failed_ step = sync_keeps kept.bound s.levels s.story next state one kept.booting unmoved after failed_ (Manifest manifest) edit_record being step
+      firm_on : (failed_ : Option Fault) → DiskStep state (Sync (Manifest manifest)) (as_answer failed_) after → KeptOn kept.bound kept.old s.levels s.story next after
+      firm_on failed_ step = sync_keeps kept.bound kept.old s.levels s.story next state one kept.booting unmoved after failed_ (Manifest manifest) edit_record being step
 
       pub sync_manifest : (next_act : Act) (behind : List Act) (rolls : List RollCall) → left_of running.job ≡ Rolls SyncManifest ∷ map Rolls (MakeTemporary ∷ rolls)
           → DiskStep state (Sync (Manifest manifest)) (as_answer None) after → BootKept (act_done (Rolls SyncManifest) running (next_act ∷ behind) s) after
       sync_manifest next_act behind rolls left step =
           let on = firm_on None step in
           let is = sync_done (Manifest manifest) state after being.file being.present step in
-          goes_on s state after kept unmoved next _ (one_more (Rolls SyncManifest) next running) (omega arith) on (record {
-            tables = record { are = made.tables.are; few = made.tables.few };
+          goes_on s state after kept next _ (one_more (Rolls SyncManifest) next running) (omega arith) on (record {
+            tables = record { are = made.tables.are; some = made.tables.some; few = made.tables.few };
             live_is = made.live_is;
+            unstarted = made.unstarted;
             last_is = made.last_is;
             rising = made.rising;
             over = made.over;
@@ -191,24 +194,25 @@ module _ (s : State) (running : Resumption) (state after : Disk) (one : IsOneToO
           })
 
       pub sync_manifest_failed : (fault : Fault) → DiskStep state (Sync (Manifest manifest)) (as_answer (Some fault)) after → BootKept (act_failed (Rolls SyncManifest) running.job (failure_of (Rolls SyncManifest) fault) s) after
-      sync_manifest_failed fault step = is_over s state after kept unmoved next _ (failure_of (Rolls SyncManifest) fault) (omega arith) (firm_on (Some fault) step)
+      sync_manifest_failed fault step = is_over s state after kept next _ (failure_of (Rolls SyncManifest) fault) (omega arith) (firm_on (Some fault) step)
 
     -- ---- the temporary file is made
 
     module _ (held : IsMade kept.bound (Manifest manifest) edit_record state) where
-      temporary_on : (failed_ : Option Fault) → DiskStep state (Create (Temp manifest)) (as_answer failed_) after → KeptOn kept.bound s.levels s.story next state after
+      temporary_on : (failed_ : Option Fault) → DiskStep state (Create (Temp manifest)) (as_answer failed_) after → KeptOn kept.bound kept.old s.levels s.story next after
       temporary_on failed_ step =
-          create_keeps kept.bound s.levels s.story next state one kept.booting unmoved after failed_ (Temp manifest) next
-          (λ count file is. some_none file (sym is ∙ absent count)) (λ is. cc) (λ n is. cc) (λ none n is. cc) (omega arith) less step
+          create_keeps kept.bound kept.old s.levels s.story next state one kept.booting unmoved after failed_ (Temp manifest) next
+          (λ count file is. some_none file (sym is ∙ absent count)) (λ is. cc) (λ n is. cc) (λ before none n is. cc) (omega arith) less step
 
       pub make_temporary : (next_act : Act) (behind : List Act) (rolls : List RollCall) → left_of running.job ≡ Rolls MakeTemporary ∷ map Rolls (AppendName ∷ rolls)
           → DiskStep state (Create (Temp manifest)) (as_answer None) after → BootKept (act_done (Rolls MakeTemporary) running (next_act ∷ behind) s) after
       make_temporary next_act behind rolls left step =
           let on = temporary_on None step in
           let is = create_done (Temp manifest) state after step in
-          goes_on s state after kept unmoved next _ (one_more (Rolls MakeTemporary) next running) (omega arith) on (record {
-            tables = record { are = made.tables.are; few = made.tables.few };
+          goes_on s state after kept next _ (one_more (Rolls MakeTemporary) next running) (omega arith) on (record {
+            tables = record { are = made.tables.are; some = made.tables.some; few = made.tables.few };
             live_is = made.live_is;
+            unstarted = made.unstarted;
             last_is = made.last_is;
             rising = made.rising;
             over = made.over;
@@ -229,23 +233,24 @@ module _ (s : State) (running : Resumption) (state after : Disk) (one : IsOneToO
           })
 
       pub make_temporary_failed : (fault : Fault) → DiskStep state (Create (Temp manifest)) (as_answer (Some fault)) after → BootKept (act_failed (Rolls MakeTemporary) running.job (failure_of (Rolls MakeTemporary) fault) s) after
-      make_temporary_failed fault step = is_over s state after kept unmoved next _ (failure_of (Rolls MakeTemporary) fault) (omega arith) (temporary_on (Some fault) step)
+      make_temporary_failed fault step = is_over s state after kept next _ (failure_of (Rolls MakeTemporary) fault) (omega arith) (temporary_on (Some fault) step)
 
   -- ---- the name is appended, and gets firm
 
   module _ (manifest : ℕ) (manifest_is : running.job.progress.manifest ≡ Some manifest) (temporary_is : running.job.progress.temporary ≡ Some manifest) (held : IsMade kept.bound (Manifest manifest) edit_record state) (unmoved : IsUnmoved kept.bound state) where
     module _ (being : IsBeingMade kept.bound (Temp manifest) [] state) where
-      name_on : (failed_ : Option Fault) → DiskStep state (Append (Temp manifest) (current_of manifest)) (as_answer failed_) after → KeptOn kept.bound s.levels s.story next state after
-      name_on failed_ step = append_keeps kept.bound s.levels s.story next state one kept.booting unmoved after failed_ (Temp manifest) [] (current_of manifest) being step
+      name_on : (failed_ : Option Fault) → DiskStep state (Append (Temp manifest) (current_of manifest)) (as_answer failed_) after → KeptOn kept.bound kept.old s.levels s.story next after
+      name_on failed_ step = append_keeps kept.bound kept.old s.levels s.story next state one kept.booting unmoved after failed_ (Temp manifest) [] (current_of manifest) being step
 
       pub append_name : (next_act : Act) (behind : List Act) (rolls : List RollCall) → left_of running.job ≡ Rolls AppendName ∷ map Rolls (SyncTemporary ∷ rolls)
           → DiskStep state (Append (Temp manifest) (current_of manifest)) (as_answer None) after → BootKept (act_done (Rolls AppendName) running (next_act ∷ behind) s) after
       append_name next_act behind rolls left step =
           let on = name_on None step in
           let is = append_done (Temp manifest) (current_of manifest) state after being.file being.present step in
-          goes_on s state after kept unmoved next _ (one_more (Rolls AppendName) next running) (omega arith) on (record {
-            tables = record { are = made.tables.are; few = made.tables.few };
+          goes_on s state after kept next _ (one_more (Rolls AppendName) next running) (omega arith) on (record {
+            tables = record { are = made.tables.are; some = made.tables.some; few = made.tables.few };
             live_is = made.live_is;
+            unstarted = made.unstarted;
             last_is = made.last_is;
             rising = made.rising;
             over = made.over;
@@ -266,20 +271,21 @@ module _ (s : State) (running : Resumption) (state after : Disk) (one : IsOneToO
           })
 
       pub append_name_failed : (fault : Fault) → DiskStep state (Append (Temp manifest) (current_of manifest)) (as_answer (Some fault)) after → BootKept (act_failed (Rolls AppendName) running.job (failure_of (Rolls AppendName) fault) s) after
-      append_name_failed fault step = is_over s state after kept unmoved next _ (failure_of (Rolls AppendName) fault) (omega arith) (name_on (Some fault) step)
+      append_name_failed fault step = is_over s state after kept next _ (failure_of (Rolls AppendName) fault) (omega arith) (name_on (Some fault) step)
 
     module _ (being : IsBeingMade kept.bound (Temp manifest) (current_of manifest) state) where
-      ready_on : (failed_ : Option Fault) → DiskStep state (Sync (Temp manifest)) (as_answer failed_) after → KeptOn kept.bound s.levels s.story next state after
-      ready_on failed_ step = sync_keeps kept.bound s.levels s.story next state one kept.booting unmoved after failed_ (Temp manifest) (current_of manifest) being step
+      ready_on : (failed_ : Option Fault) → DiskStep state (Sync (Temp manifest)) (as_answer failed_) after → KeptOn kept.bound kept.old s.levels s.story next after
+      ready_on failed_ step = sync_keeps kept.bound kept.old s.levels s.story next state one kept.booting unmoved after failed_ (Temp manifest) (current_of manifest) being step
 
       pub sync_temporary : (next_act : Act) (behind : List Act) (rolls : List RollCall) → left_of running.job ≡ Rolls SyncTemporary ∷ map Rolls (Rename ∷ rolls)
           → DiskStep state (Sync (Temp manifest)) (as_answer None) after → BootKept (act_done (Rolls SyncTemporary) running (next_act ∷ behind) s) after
       sync_temporary next_act behind rolls left step =
           let on = ready_on None step in
           let is = sync_done (Temp manifest) state after being.file being.present step in
-          goes_on s state after kept unmoved next _ (one_more (Rolls SyncTemporary) next running) (omega arith) on (record {
-            tables = record { are = made.tables.are; few = made.tables.few };
+          goes_on s state after kept next _ (one_more (Rolls SyncTemporary) next running) (omega arith) on (record {
+            tables = record { are = made.tables.are; some = made.tables.some; few = made.tables.few };
             live_is = made.live_is;
+            unstarted = made.unstarted;
             last_is = made.last_is;
             rising = made.rising;
             over = made.over;
@@ -300,4 +306,4 @@ module _ (s : State) (running : Resumption) (state after : Disk) (one : IsOneToO
           })
 
       pub sync_temporary_failed : (fault : Fault) → DiskStep state (Sync (Temp manifest)) (as_answer (Some fault)) after → BootKept (act_failed (Rolls SyncTemporary) running.job (failure_of (Rolls SyncTemporary) fault) s) after
-      sync_temporary_failed fault step = is_over s state after kept unmoved next _ (failure_of (Rolls SyncTemporary) fault) (omega arith) (ready_on (Some fault) step)
+      sync_temporary_failed fault step = is_over s state after kept next _ (failure_of (Rolls SyncTemporary) fault) (omega arith) (ready_on (Some fault) step)

@@ -1,92 +1,39 @@
 -- The roll of a boot leads to its story: its edit gives tables that are firm and say what the story says.
-use Rattle.std.proofs.Common.{◌≡◌, ℕ, ◌<◌, ◌==◌, nat_le, not, Bool, true, false, List, [], ◌∷◌, ◌++◌, length, take, filter, Some, None, Ok, refl, sym, ap, subst, ◌∙◌, arith, ⊎_elim, if◌then◌else◌, append-nil}
+use Rattle.std.proofs.Common.{◌≡◌, ℕ, ◌<◌, ◌==◌, not, Bool, true, false, List, [], ◌∷◌, ◌++◌, length, take, filter, Some, None, Ok, refl, sym, ap, subst, ◌∙◌, arith, if◌then◌else◌, append-nil}
 use Rattle.std.specs.List.{AllByRecursion}
 use Rattle.std.proofs.Math.Seq.{take-length}
-use Rattle.std.proofs.lemmas.Bool.{lt-leb}
 use Rattle.keel_base.specs.declared.file_name.FileName.{FileName}
-use Rattle.keel_base.specs.declared.file_name.FileName.TheVariants.{Current, Table}
+use Rattle.keel_base.specs.declared.file_name.FileName.TheVariants.{Table}
 use Rattle.keel_base.specs.declared.op.Op.{Op}
 use Rattle.keel_base.specs.Points.{Point, fold_batches}
-use Rattle.keel_base.specs.Name.{name_eq}
-use Rattle.keel_base.proofs.Names.{name_eq-true}
-use Rattle.keel_disk.specs.declared.state.Operation.{Operation}
-use Rattle.keel_disk.specs.Directory.{Named, find, operated_all}
 use Rattle.keel_disk.specs.State.{State as Disk}
 use Rattle.keel_disk.specs.Steady.{file_behind}
-use Rattle.keel_disk.specs.Sound.{AreOwn, IsOneToOne}
 use Rattle.keel_edit.specs.declared.edit.Added.{Added}
 use Rattle.keel_directory.specs.TableFiles.{TableFile, open_sized}
-use Rattle.keel_machine.specs.Resuming.{made_in}
+use Rattle.keel_machine.specs.Resuming.{cleared_story, made_in}
 use Rattle.keel_machine.specs.States.{Story, entries_in, point_of}
 use Rattle.keel_open.specs.NextFiles.{number_in}
 use Rattle.keel_draft.specs.Drafts.{Draft, file_of as table_of, numbered}
 use Rattle.keel_resume.specs.Plans.{Job, edit_of}
-use Rattle.keel_recovery.specs.Booting.{below, IsBooting, IsOldTable}
+use Rattle.keel_recovery.specs.Booting.{IsBooting, IsOldTable}
 use Rattle.keel_recovery.specs.BootCalls.{AreAllFixed, AreFixed, AreRising}
 use Rattle.keel_recovery.specs.BootLaws.{IsAfterCrash}
 use Rattle.keel_recovery.specs.BootRoll.{Gives, contents_behind, levels_behind}
 use Rattle.keel_recovery.specs.Chains.{Chained, OthersEmpty}
 use Rattle.keel_recovery.specs.Roots.{AreFirmTables, BeginsAt, IsFirmTable, IsRoot, Say, first_from, point_at}
-use Rattle.keel_recovery.proofs.BootNames.{IsOld, IsMovedIn, all_old, found_below, none_below}
-use Rattle.keel_recovery.proofs.BootStands.{newer_first}
-use Rattle.keel_disk.proofs.Operating.{find-unlinked}
 
 some_none : {A P : Type 0} (x : A) → Some x ≡ None → P
 some_none x e = cc
 
--- ---- what was there at the opening has steady names
+-- ---- what was there when the job began has steady names
 
--- an older file's name is there among all
-below_found : (bound total : ℕ) (name : FileName) (file : ℕ) (directory : Named ℕ) → AreOwn total directory → find name (below bound directory) ≡ Some file → find name directory ≡ Some file
-below_found bound total name file [] own is = is
-below_found bound total name file (entry ∷ rest) own is =
-    elim (nat_le bound entry.1) as (λ c. find name (if c then below bound rest else entry ∷ below bound rest) ≡ Some file → find name (entry ∷ rest) ≡ Some file) [
-      | true ↦ λ later.
-          elim (name_eq entry.0 name) as (λ b. name_eq entry.0 name ≡ b → (if b then Some entry.1 else find name rest) ≡ Some file) [
-            | true ↦ λ same. absurd (some_none file (sym later ∙ none_below bound name rest (subst (λ n. find n rest ≡ None) (name_eq-true entry.0 name same) own.0.once)))
-            | false ↦ λ apart. below_found bound total name file rest own.1 later
-          ] refl
-      | false ↦ λ now.
-          elim (name_eq entry.0 name) as (λ b. (if b then Some entry.1 else find name (below bound rest)) ≡ Some file → (if b then Some entry.1 else find name rest) ≡ Some file) [
-            | true ↦ λ here. here
-            | false ↦ λ later. below_found bound total name file rest own.1 later
-          ] now
-    ] is
+-- an old table is there, whatever operations are done
+pub old_steady : (bound : ℕ) (state : Disk) (table : TableFile) → IsOldTable bound state table → IsFirmTable state table.entry table
+old_steady bound state table is = record { entry = refl; file = is.file; steady = is.steady; held = is.held; opens = is.opens }
 
-module _ (bound : ℕ) (levels : List TableFile) (story : Story) (next_file : ℕ) (state : Disk) (one : IsOneToOne state) (booting : IsBooting bound levels story next_file state) where
-  abbrev old : Named ℕ
-  old = below bound state.firm
-
-  -- the older names of any directory, but CURRENT, are those that are firm
-  old_in : (count : ℕ) (name : FileName) → name_eq Current name ≡ false → find name (below bound (operated_all (take count state.waiting) state.firm)) ≡ find name old
-  old_in count name differs =
-      ⊎_elim (λ (is : IsOld bound old (operated_all (take count state.waiting) state.firm)). ap (find name) is)
-      (λ (moved : IsMovedIn bound old (operated_all (take count state.waiting) state.firm)). ap (find name) moved.others ∙ find-unlinked name Current old differs)
-      (all_old bound old (take count state.waiting) state.firm (newer_first bound levels story next_file state one booting count) refl)
-
-  -- an old table is there, whatever operations are done
-  pub old_steady : (table : TableFile) → IsOldTable bound state table → IsFirmTable state table.entry table
-  old_steady table is =
-      let name = Table table.entry.number in
-      let older : nat_le bound is.file ≡ false = lt-leb bound is.file is.old in
-      let among : find name old ≡ Some is.file =
-      sym (old_in (length state.waiting) name refl)
-      ∙ found_below bound name is.file (operated_all (take (length state.waiting) state.waiting) state.firm)
-      (ap (λ (ops : List Operation). find name (operated_all ops state.firm)) (take-length state.waiting) ∙ is.present.named) older in
-      record {
-        entry = refl;
-        file = is.file;
-        steady = record {
-          named = λ count. below_found bound (length state.files) name is.file (operated_all (take count state.waiting) state.firm) (one count) (old_in count name refl ∙ among);
-          not_cut = is.present.not_cut;
-        };
-        held = is.held;
-        opens = is.opens;
-      }
-
-  pub all_old_steady : (tables : List TableFile) → AllByRecursion (IsOldTable bound state) tables → AllByRecursion (λ (table : TableFile). IsFirmTable state table.entry table) tables
-  all_old_steady [] are = tt
-  all_old_steady (table ∷ tables) are = (old_steady table are.0, all_old_steady tables are.1)
+pub all_old_steady : (bound : ℕ) (state : Disk) (tables : List TableFile) → AllByRecursion (IsOldTable bound state) tables → AllByRecursion (λ (table : TableFile). IsFirmTable state table.entry table) tables
+all_old_steady bound state [] are = tt
+all_old_steady bound state (table ∷ tables) are = (old_steady bound state table are.0, all_old_steady bound state tables are.1)
 
 -- ---- the tables behind the boot
 
@@ -134,11 +81,8 @@ entries_all P (table ∷ tables) are = (are.0, entries_all P tables are.1)
 old_drawn : (bound next : ℕ) (state : Disk) (levels : List TableFile) → ((count file : ℕ) (name : FileName) → file_behind count name state ≡ Some file → number_in name < next)
     → AllByRecursion (IsOldTable bound state) levels → AllByRecursion (λ (table : TableFile). table.entry.number < next) levels
 old_drawn bound next state [] drawn are = tt
-old_drawn bound next state (table ∷ levels) drawn are = (
-  drawn (length state.waiting) are.0.file (Table table.entry.number)
-      (ap (λ (ops : List Operation). find (Table table.entry.number) (operated_all ops state.firm)) (take-length state.waiting) ∙ are.0.present.named),
-  old_drawn bound next state levels drawn are.1,
-)
+old_drawn bound next state (table ∷ levels) drawn are =
+    (drawn 0 are.0.file (Table table.entry.number) (are.0.steady.named 0), old_drawn bound next state levels drawn are.1)
 
 -- ---- the root
 
@@ -147,27 +91,33 @@ point_whole story after =
     ap (λ (l : List (List Op)). fold_batches story.start (take (length story.log) (story.log ++ l))) after.none_in_limbo
     ∙ (ap (λ (l : List (List Op)). fold_batches story.start (take (length story.log) l)) (append-nil story.log) ∙ ap (fold_batches story.start) (take-length story.log))
 
-module _ (bound : ℕ) (levels : List TableFile) (story : Story) (next_file : ℕ) (job : Job) (state : Disk) (one : IsOneToOne state) (after : IsAfterCrash story) (booting : IsBooting bound levels story next_file state)
+module _ (bound : ℕ) (old : Disk) (levels : List TableFile) (story : Story) (next_file : ℕ) (job : Job) (state : Disk) (booting : IsBooting bound old levels story next_file state)
     (parts : AreAllFixed bound job next_file state) (rising : AreRising job.progress.tables next_file) (last_is : job.last_seq ≡ (point_of story).seq) (gives : Gives levels story job parts.log next_file) where
+  abbrev all_in : Story
+  all_in = cleared_story story
+
+  all_whole : point_at (length story.log) all_in ≡ point_of story
+  all_whole = point_whole all_in (record { none_in_limbo = refl; all_stay = refl })
+
   pub tables_firm : AreFirmTables state (entries_in (levels_behind levels job)) (levels_behind levels job)
   tables_firm = all_firm state (levels_behind levels job) (all_behind (λ (table : TableFile). IsFirmTable state table.entry table) levels job
-      (all_old_steady bound levels story next_file state one booting levels booting.tables)
+      (all_old_steady bound state levels booting.tables)
       (made_firm bound state job.progress.tables job.drafts parts.fixed gives.opens))
 
   -- logs from the new one on have no byte
   pub others_empty : (logs : List Chained) → OthersEmpty parts.log logs state
   others_empty logs count n file over other is = booting.logs_empty count n file is (parts.logs count n file over is)
 
-  pub roll_root : (logs : List Chained) → BeginsAt (length story.log) (first_from parts.log logs) story → IsRoot (edit_of job next_file ∷ []) logs story next_file state
+  pub roll_root : (logs : List Chained) → BeginsAt (length story.log) (first_from parts.log logs) all_in → IsRoot (edit_of job next_file ∷ []) logs all_in next_file state
   roll_root logs begins = record {
     version = contents_behind levels job parts.log next_file;
     is_version = gives.version;
     place = length story.log;
     published = omega arith;
-    ends = last_is ∙ sym (ap (λ (p : Point). p.seq) (point_whole story after));
+    ends = last_is ∙ sym (ap (λ (p : Point). p.seq) all_whole);
     tables = levels_behind levels job;
     firm = tables_firm;
-    say = subst (Say job.last_seq (levels_behind levels job)) (sym (point_whole story after)) gives.say;
+    say = subst (Say job.last_seq (levels_behind levels job)) (sym all_whole) gives.say;
     begins = begins;
     others = others_empty logs;
     log_drawn = parts.log_drawn;

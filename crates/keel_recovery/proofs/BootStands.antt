@@ -1,5 +1,5 @@
--- The device of a booting store stands for its story.
-use Rattle.std.proofs.Common.{◌≡◌, ℕ, zero, suc, ◌≤◌, Bool, true, false, List, [], ◌∷◌, ◌++◌, length, take, Option, Some, None, Result, Ok, Err, refl, sym, ap, subst, ◌∙◌, inl, inr, nat_le, ⊎_elim, if◌then◌else◌}
+-- The device of a store of which a job makes its calls stands for its story.
+use Rattle.std.proofs.Common.{◌≡◌, ℕ, ◌≤◌, Bool, true, false, List, [], ◌∷◌, ◌++◌, length, take, Option, Some, None, Result, Ok, Err, refl, sym, ap, subst, ◌∙◌, inl, inr, nat_le, if◌then◌else◌}
 use Rattle.std.specs.List.{AllByRecursion}
 use Rattle.std.proofs.lemmas.Bool.{leb-true, le-leb}
 use Rattle.std.proofs.Math.Seq.{take-length}
@@ -7,9 +7,8 @@ use Rattle.keel_base.specs.declared.file_name.FileName.{FileName}
 use Rattle.keel_base.specs.declared.file_name.FileName.TheVariants.{Current}
 use Rattle.keel_disk.specs.declared.state.File.{File}
 use Rattle.keel_disk.specs.declared.state.Operation.{Operation}
-use Rattle.keel_disk.specs.declared.state.Operation.TheVariants.{Link, Move, Unlink, Shorten}
 use Rattle.keel_disk.specs.Directory.{Named, find, operated_all}
-use Rattle.keel_disk.specs.State.{State, file_at, files_operated, files_operated_all, directory_read}
+use Rattle.keel_disk.specs.State.{State, file_at, files_operated_all, directory_read}
 use Rattle.keel_disk.specs.Steady.{ReadsAsMeant}
 use Rattle.keel_disk.specs.Image.{AreImages}
 use Rattle.keel_disk.specs.Plain.{ArePlain, PlainImage, bytes_read, image_read}
@@ -22,8 +21,9 @@ use Rattle.keel_directory.specs.Standing.{ReadsAs, StandsRead}
 use Rattle.keel_directory.proofs.Needed.{new_read}
 use Rattle.keel_directory.specs.TableFiles.{TableFile}
 use Rattle.keel_machine.specs.States.{Story}
-use Rattle.keel_recovery.specs.Booting.{below, IsMoved, IsNewer, IsRoll, OldStands, IsBooting}
-use Rattle.keel_recovery.proofs.BootNames.{IsOld, IsMovedIn, all_old, all_moved, unlinked_same, none_below, found_below, newer_gone}
+use Rattle.keel_machine.specs.Resuming.{cleared_story}
+use Rattle.keel_recovery.specs.Booting.{below, IsMovedIn, IsOldIn, IsRoll, IsBooting}
+use Rattle.keel_recovery.proofs.BootNames.{files_uncut, none_below, found_below}
 use Rattle.keel_recovery.proofs.BootImages.{kept, first_images, first_plain, first_read, AreShown, images_shown, shown_kept, none_named, some_named, images_kept, plain_kept, names_of, kept_some, all_entries, IsUnneeded, logs_kept, used_kept}
 use Rattle.keel_recovery.proofs.BootReading.{held_over}
 
@@ -64,23 +64,7 @@ module _ (bound total : ℕ) (tables : Type 0) (files : List File) (d : Named �
       new_read image at.0 (sym (used_kept bound tables files d image are each at.1) ∙ none.1)
   reads_over (refused refusal) sound is bare = absurd sound
 
--- ---- files behind newer operations
-
-files_newer : (bound : ℕ) (old : Named ℕ) (operation : Operation) (files : List File) → IsNewer bound old operation → files_operated operation files ≡ files
-files_newer bound old (Link name file) files newer = refl
-files_newer bound old (Move from to) files newer = refl
-files_newer bound old (Unlink name) files newer = absurd newer
-files_newer bound old (Shorten file size) files newer = absurd newer
-
-all_files_newer : (bound : ℕ) (old : Named ℕ) (operations : List Operation) (files : List File) → AllByRecursion (IsNewer bound old) operations → files_operated_all operations files ≡ files
-all_files_newer bound old [] files newer = refl
-all_files_newer bound old (operation ∷ rest) files newer =
-    all_files_newer bound old rest (files_operated operation files) newer.1 ∙ files_newer bound old operation files newer.0
-
-all_taken : {A : Type 0} (P : A → Type 0) (count : ℕ) (xs : List A) → AllByRecursion P xs → AllByRecursion P (take count xs)
-all_taken P zero xs all = tt
-all_taken P (suc count) [] all = tt
-all_taken P (suc count) (x ∷ xs) all = (all.0, all_taken P count xs all.1)
+-- ---- the directory without newer files
 
 kept_read : (bound : ℕ) (files : List File) (d : Named ℕ) → kept bound d (bytes_read files d) ≡ bytes_read files (below bound d)
 kept_read bound files [] = refl
@@ -93,24 +77,25 @@ kept_read bound files (entry ∷ rest) =
 
 -- ---- every image
 
-module _ (bound : ℕ) (levels : List TableFile) (story : Story) (next_file : ℕ) (state : State) (one : IsOneToOne state) (booting : IsBooting bound levels story next_file state) where
+module _ (bound : ℕ) (old : State) (levels : List TableFile) (story : Story) (next_file : ℕ) (state : State) (one : IsOneToOne state) (booting : IsBooting bound old levels story next_file state) where
   abbrev directory : ℕ → Named ℕ
   directory count = operated_all (take count state.waiting) state.firm
 
-  abbrev Bare : Type 0
-  Bare = find Current (below bound state.firm) ≡ None → ⊥
-
-  pub newer_first : (count : ℕ) → AllByRecursion (IsNewer bound (below bound state.firm)) (take count state.waiting)
-  newer_first count = all_taken (IsNewer bound (below bound state.firm)) count state.waiting booting.newer
+  abbrev directory_then : ℕ → Named ℕ
+  directory_then before = operated_all (take before old.waiting) old.firm
 
   pub same_files : (count : ℕ) → files_operated_all (take count state.waiting) state.files ≡ state.files
-  same_files count = all_files_newer bound (below bound state.firm) (take count state.waiting) state.files (newer_first count)
+  same_files count = files_uncut count state.waiting state.files booting.uncut
 
-  unneeded_each : (old : OldStands bound story state) (count : ℕ) → AllByRecursion (λ (entry : FileName × ℕ). IsUnneeded bound Bare state.files entry.0 entry.1) (directory count)
-  unneeded_each old count = all_entries (length state.files) (IsUnneeded bound Bare state.files) (directory count) (one count) (λ name file is. record {
+  -- the directory that the device had isn't a new store's
+  abbrev Bare : ℕ → Type 0
+  Bare before = find Current (directory_then before) ≡ None → ⊥
+
+  unneeded_each : (count before : ℕ) → AllByRecursion (λ (entry : FileName × ℕ). IsUnneeded bound (Bare before) state.files entry.0 entry.1) (directory count)
+  unneeded_each count before = all_entries (length state.files) (IsUnneeded bound (Bare before) state.files) (directory count) (one count) (λ name file is. record {
     log = λ n is_log newer. booting.logs_empty count n file (subst (λ m. find m (directory count) ≡ Some file) is_log is) newer;
     trash = λ n is_trash newer. booting.no_trash count n file (subst (λ m. find m (directory count) ≡ Some file) is_trash is) newer;
-    table = λ n is_table newer none. old.no_table none count n file (subst (λ m. find m (directory count) ≡ Some file) is_table is) newer;
+    table = λ n is_table newer none. booting.no_table before none count n file (subst (λ m. find m (directory count) ≡ Some file) is_table is) newer;
   })
 
   -- CURRENT isn't one of the files that were made since
@@ -132,22 +117,21 @@ module _ (bound : ℕ) (levels : List TableFile) (story : Story) (next_file : �
   older_one None older = tt
   older_one (Some file) older = older
 
-  not_moved : (count : ℕ) → IsOlder (find Current (directory count)) → IsMovedIn bound (below bound state.firm) (directory count) → ⊥
-  not_moved count older moved =
+  not_moved : (d : Named ℕ) → IsOlder (find Current d) → IsMovedIn bound d → ⊥
+  not_moved d older moved =
       let is : IsOlder (Some moved.file) = subst IsOlder moved.current older in
-      differ (sym moved.newer ∙ is)
+      differ (sym (le-leb bound moved.file moved.newer) ∙ is)
 
   -- an image of which that is so reads as its older files
-  module _ (old : OldStands bound story state) (count : ℕ) (older : IsOlder (find Current (directory count))) where
-    as_old : below bound (directory count) ≡ below bound state.firm
-    as_old = ⊎_elim (λ (is : IsOld bound (below bound state.firm) (directory count)). is) (λ moved. absurd (not_moved count older moved))
-        (all_old bound (below bound state.firm) (take count state.waiting) state.firm (newer_first count) refl)
+  module _ (count : ℕ) (is : IsOldIn bound old (directory count)) (older : IsOlder (find Current (directory count))) where
+    abbrev before : ℕ
+    before = is.before
 
     bare_where : (image : Named (List ℕ)) (current : Option ℕ) → find Current (directory count) ≡ current → IsOlder current → AreShown state.files (directory count) image
-        → find Current (kept bound (directory count) image) ≡ None → (find Current image ≡ None) × (Bare → ⊥)
+        → find Current (kept bound (directory count) image) ≡ None → (find Current image ≡ None) × (Bare before → ⊥)
     bare_where image None at older are none = (
       none_named Current (directory count) image (names_of state.files (directory count) image are) at,
-      λ bare. bare (subst (λ d. find Current d ≡ None) as_old (none_below bound Current (directory count) at)),
+      λ bare. bare (subst (λ d. find Current d ≡ None) is.same (none_below bound Current (directory count) at)),
     )
     bare_where image (Some file) at older are none =
         absurd (some_named Current file (below bound (directory count)) (kept bound (directory count) image)
@@ -160,7 +144,7 @@ module _ (bound : ℕ) (levels : List TableFile) (story : Story) (next_file : �
       reads.0,
       record {
         reading = reads.1.reading;
-        is_read = reads_over bound (length state.files) Bare state.files (directory count) image (one count) are (unneeded_each old count) reads.1.reading reads.1.sound reads.1.is_read
+        is_read = reads_over bound (length state.files) (Bare before) state.files (directory count) image (one count) are (unneeded_each count before) reads.1.reading reads.1.sound reads.1.is_read
             (bare_where image (find Current (directory count)) refl older are);
         sound = reads.1.sound;
         has = reads.1.has;
@@ -168,42 +152,27 @@ module _ (bound : ℕ) (levels : List TableFile) (story : Story) (next_file : �
       reads.2,
     )
 
+    files_then : files_operated_all (take before old.waiting) old.files ≡ take bound state.files
+    files_then = files_uncut before old.waiting old.files booting.old_uncut ∙ booting.first
+
     pub old_image : (image : Named (List ℕ)) → AreImages state.files (directory count) image → ArePlain state.files (directory count) image → ReadsIn ReadsAs story.start story.log story.limbo story.floor image
     old_image image are plain =
-        let kept_are = subst (λ d. AreImages state.files d (kept bound (directory count) image)) as_old (images_kept bound state.files (directory count) image are) in
-        let kept_plain = subst (λ d. ArePlain state.files d (kept bound (directory count) image)) as_old (plain_kept bound state.files (directory count) image plain) in
-        old_reads image story.floor (images_shown state.files (directory count) image are) (old.stands.images (kept bound (directory count) image) (0, (first_images bound state.files state.firm (kept bound (directory count) image) kept_are, first_plain bound state.files state.firm (kept bound (directory count) image) kept_plain)))
-
-    -- the directory as it is read
-    pub old_now : AreShown state.files (directory count) (bytes_read state.files (directory count))
-        → ReadsIn ReadsAs story.start story.log story.limbo (length story.log) (bytes_read state.files (directory count))
-    old_now are =
-        old_reads (bytes_read state.files (directory count)) (length story.log) are
-        (subst (λ image. ReadsIn ReadsAs story.start story.log story.limbo (length story.log) image)
-        (sym (kept_read bound state.files (directory count) ∙ (ap (bytes_read state.files) as_old ∙ sym (first_read bound state.files state.firm)))) old.stands.now)
-
-  -- ---- what a firm CURRENT says of every directory
-
-  -- CURRENT has a newer file in what is firm
-  module _ (file : ℕ) (current : find Current state.firm ≡ Some file) (newer : bound ≤ file) where
-    first_moved : IsMovedIn bound (below bound state.firm) state.firm
-    first_moved = record {
-      file = file;
-      current = current;
-      newer = le-leb bound file newer;
-      others = sym (unlinked_same Current (below bound state.firm) (newer_gone bound (length state.files) Current file state.firm (one 0) current (le-leb bound file newer)));
-    }
-
-    pub moved_always : (count : ℕ) → IsMovedIn bound (below bound state.firm) (directory count)
-    moved_always count = all_moved bound (below bound state.firm) (take count state.waiting) state.firm (newer_first count) first_moved
-
-  pub moved_by : (current : Option ℕ) → find Current state.firm ≡ current → IsMoved bound current → (count : ℕ) → IsMovedIn bound (below bound state.firm) (directory count)
-  moved_by None at moved count = absurd moved
-  moved_by (Some file) at moved count = moved_always file at moved count
+        let own = kept bound (directory count) image in
+        let kept_are : AreImages (take bound state.files) (directory_then before) own =
+        subst (λ d. AreImages (take bound state.files) d own) is.same (first_images bound state.files (directory count) own (images_kept bound state.files (directory count) image are)) in
+        let kept_plain : ArePlain (take bound state.files) (directory_then before) own =
+        subst (λ d. ArePlain (take bound state.files) d own) is.same (first_plain bound state.files (directory count) own (plain_kept bound state.files (directory count) image plain)) in
+        old_reads image story.floor (images_shown state.files (directory count) image are) (booting.stands.images own (
+          before,
+          (
+            subst (λ (files : List File). AreImages files (directory_then before) own) (sym files_then) kept_are,
+            subst (λ (files : List File). ArePlain files (directory_then before) own) (sym files_then) kept_plain,
+          ),
+        ))
 
   -- ---- the device
 
-  module _ (rolls_read : (count : ℕ) (image : Named (List ℕ)) → AreImages state.files (directory count) image → ArePlain state.files (directory count) image → IsRoll count story next_file state
+  module _ (rolls_read : (count : ℕ) (image : Named (List ℕ)) → AreImages state.files (directory count) image → ArePlain state.files (directory count) image → IsRoll count (cleared_story story) next_file state
       → ReadsIn ReadsAs story.start story.log story.limbo story.floor image) where
     by_current : (count : ℕ) (image : Named (List ℕ)) (current : Option ℕ) → find Current (directory count) ≡ current → AreImages state.files (directory count) image → ArePlain state.files (directory count) image
         → ReadsIn ReadsAs story.start story.log story.limbo story.floor image
@@ -214,9 +183,9 @@ module _ (bound : ℕ) (levels : List TableFile) (story : Story) (next_file : �
               rolls_read count image are plain (booting.rolls count file.0 (at ∙ file.1) file.2)
           | false ↦ λ older.
               let not = subst IsOlder (sym at) (older_one current older) in
-              elim booting.old [
-                | inl moved ↦ absurd (not_moved count not (moved_by (find Current state.firm) refl moved count))
-                | inr old ↦ old_image old count not image are plain
+              elim (booting.shows count) [
+                | inl moved ↦ absurd (not_moved (directory count) not moved)
+                | inr is ↦ old_image count is not image are plain
               ]
         ] refl
 
@@ -239,7 +208,7 @@ reads_are : (files : List File) (d : Named ℕ) → AllByRecursion (λ (entry : 
 reads_are files [] each = tt
 reads_are files (entry ∷ rest) each = (refl, none_read (file_at entry.1 files) each.0, reads_are files rest each.1)
 
-module _ (bound : ℕ) (levels : List TableFile) (story : Story) (next_file : ℕ) (state : State) (one : IsOneToOne state) (booting : IsBooting bound levels story next_file state) where
+module _ (bound : ℕ) (old : State) (levels : List TableFile) (story : Story) (next_file : ℕ) (state : State) (one : IsOneToOne state) (booting : IsBooting bound old levels story next_file state) where
   abbrev all_done : Named ℕ
   all_done = operated_all (take (length state.waiting) state.waiting) state.firm
 
@@ -248,32 +217,51 @@ module _ (bound : ℕ) (levels : List TableFile) (story : Story) (next_file : �
 
   read_files : AreShown state.files all_done (bytes_read state.files all_done)
   read_files =
-      let files = same_files bound levels story next_file state one booting (length state.waiting) in
+      let files = same_files bound old levels story next_file state one booting (length state.waiting) in
       reads_are state.files all_done
       (all_entries (length state.files) (λ name file. ReadsAsMeant (file_at file state.files)) all_done (one (length state.waiting))
       (λ name file is. subst (λ fs. ReadsAsMeant (file_at file fs)) files (booting.read name file (subst (λ d. find name d ≡ Some file) whole is))))
 
-  module _ (rolls_now : IsRoll (length state.waiting) story next_file state → ReadsIn ReadsAs story.start story.log story.limbo (length story.log) (image_read state)) where
+  -- what is read is what the device read then
+  module _ (same : below bound (directory_read state) ≡ directory_read old) (older : IsOlder bound old levels story next_file state one booting (find Current all_done)) where
+    as_then : IsOldIn bound old all_done
+    as_then = record {
+      before = length old.waiting;
+      same = ap (below bound) whole ∙ (same ∙ sym (ap (λ (ops : List Operation). operated_all ops old.firm) (take-length old.waiting)));
+    }
+
+    read_then : kept bound all_done (bytes_read state.files all_done) ≡ image_read old
+    read_then =
+        kept_read bound state.files all_done
+        ∙ (sym (first_read bound state.files all_done)
+        ∙ (ap (λ (files : List File). bytes_read files (below bound all_done)) (sym booting.first)
+        ∙ ap (bytes_read old.files) (ap (below bound) whole ∙ same)))
+
+    old_now : ReadsIn ReadsAs story.start story.log story.limbo (length story.log) (image_read state)
+    old_now =
+        subst (λ d. ReadsIn ReadsAs story.start story.log story.limbo (length story.log) (bytes_read state.files d)) whole
+        (old_reads bound old levels story next_file state one booting (length state.waiting) as_then older (bytes_read state.files all_done) (length story.log) read_files
+        (subst (λ image. ReadsIn ReadsAs story.start story.log story.limbo (length story.log) image) (sym read_then) booting.stands.now))
+
+  module _ (rolls_now : IsRoll (length state.waiting) (cleared_story story) next_file state → ReadsIn ReadsAs story.start story.log story.limbo (length story.log) (image_read state)) where
     at_read : (current : Option ℕ) → find Current all_done ≡ current → ReadsIn ReadsAs story.start story.log story.limbo (length story.log) (image_read state)
     at_read current at =
-        elim (is_newer bound levels story next_file state one booting current)
-        as (λ b. is_newer bound levels story next_file state one booting current ≡ b → ReadsIn ReadsAs story.start story.log story.limbo (length story.log) (image_read state)) [
+        elim (is_newer bound old levels story next_file state one booting current)
+        as (λ b. is_newer bound old levels story next_file state one booting current ≡ b → ReadsIn ReadsAs story.start story.log story.limbo (length story.log) (image_read state)) [
           | true ↦ λ newer.
-              let file = newer_file bound levels story next_file state one booting current newer in
+              let file = newer_file bound old levels story next_file state one booting current newer in
               rolls_now (booting.rolls (length state.waiting) file.0 (at ∙ file.1) file.2)
           | false ↦ λ older.
-              let not = subst (IsOlder bound levels story next_file state one booting) (sym at) (older_one bound levels story next_file state one booting current older) in
-              elim booting.old [
-                | inl moved ↦ absurd (not_moved bound levels story next_file state one booting (length state.waiting) not
-                    (moved_by bound levels story next_file state one booting (find Current state.firm) refl moved (length state.waiting)))
-                | inr old ↦ subst (λ d. ReadsIn ReadsAs story.start story.log story.limbo (length story.log) (bytes_read state.files d)) whole
-                    (old_now bound levels story next_file state one booting old (length state.waiting) not read_files)
+              let not = subst (IsOlder bound old levels story next_file state one booting) (sym at) (older_one bound old levels story next_file state one booting current older) in
+              elim booting.shows_read [
+                | inl moved ↦ absurd (not_moved bound old levels story next_file state one booting all_done not (subst (IsMovedIn bound) (sym whole) moved))
+                | inr same ↦ old_now same not
               ]
         ] refl
 
-    pub stands : ((count : ℕ) (image : Named (List ℕ)) → AreImages state.files (operated_all (take count state.waiting) state.firm) image → ArePlain state.files (operated_all (take count state.waiting) state.firm) image → IsRoll count story next_file state
-        → ReadsIn ReadsAs story.start story.log story.limbo story.floor image) → StandsRead state story.start story.log story.limbo story.floor
+    pub stands : ((count : ℕ) (image : Named (List ℕ)) → AreImages state.files (operated_all (take count state.waiting) state.firm) image → ArePlain state.files (operated_all (take count state.waiting) state.firm) image
+        → IsRoll count (cleared_story story) next_file state → ReadsIn ReadsAs story.start story.log story.limbo story.floor image) → StandsRead state story.start story.log story.limbo story.floor
     stands rolls_read = record {
-      images = images_read bound levels story next_file state one booting rolls_read;
+      images = images_read bound old levels story next_file state one booting rolls_read;
       now = at_read (find Current all_done) refl;
     }

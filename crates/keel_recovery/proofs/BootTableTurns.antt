@@ -1,14 +1,11 @@
 -- The turns of a boot that make its tables.
-use Rattle.std.proofs.Common.{◌≡◌, ℕ, ◌+◌, ◌<◌, false, List, [], ◌∷◌, ◌++◌, length, map, Option, Some, None, refl, sym, ap, subst, ◌∙◌, inl, inr, arith, append_assoc, append-nil}
+use Rattle.std.proofs.Common.{◌≡◌, ℕ, ◌+◌, ◌<◌, false, List, [], ◌∷◌, ◌++◌, map, Option, Some, None, refl, sym, ap, subst, ◌∙◌, inl, inr, arith, append_assoc, append-nil}
 use Rattle.std.specs.List.{AllByRecursion, flat_map}
-use Rattle.std.proofs.Math.Seq.{take-length}
 use Rattle.keel_base.specs.declared.failure.Fault.{Fault}
 use Rattle.keel_base.specs.declared.file_name.FileName.{FileName}
 use Rattle.keel_base.specs.declared.file_name.FileName.TheVariants.{Current, Table}
 use Rattle.keel_base.specs.Name.{name_eq}
 use Rattle.keel_disk.specs.declared.change.Change.TheVariants.{Create, Append, Sync}
-use Rattle.keel_disk.specs.declared.state.Operation.{Operation}
-use Rattle.keel_disk.specs.Directory.{find, operated_all}
 use Rattle.keel_disk.specs.State.{State as Disk}
 use Rattle.keel_disk.specs.Step.{DiskStep}
 use Rattle.keel_disk.specs.Steady.{CutsExist, file_behind}
@@ -21,7 +18,7 @@ use Rattle.keel_machine.specs.States.{State, Resumption, Segment, entries_in}
 use Rattle.keel_open.specs.NextFiles.{number_in}
 use Rattle.keel_draft.specs.Drafts.{Draft, AreDraftsOf, bytes_in, pieces_in}
 use Rattle.keel_resume.specs.Plans.{Act, MakeTable, AddPiece, SyncTable, failure_of, latest, left_of, moved, plan_of}
-use Rattle.keel_recovery.specs.Booting.{below, IsOldTable}
+use Rattle.keel_recovery.specs.Booting.{IsOldTable}
 use Rattle.keel_recovery.specs.BootCalls.{AreMade, AreRising, AtTables, BootKept, HasMadeSo, InTable, IsMade, IsBeingMade}
 use Rattle.keel_recovery.proofs.BootKeeps.{KeptOn, append_keeps, create_keeps, sync_keeps}
 use Rattle.keel_recovery.proofs.BootMaking.{goes_on, is_over, left_moved}
@@ -39,11 +36,8 @@ no_drafts seq (segment ∷ segments) drafts done rest draft none are is = cc
 live_drawn : (bound next : ℕ) (state : Disk) (levels : List TableFile) → ((count file : ℕ) (name : FileName) → file_behind count name state ≡ Some file → number_in name < next)
     → AllByRecursion (IsOldTable bound state) levels → AllByRecursion (λ (table : Added). table.number < next) (entries_in levels)
 live_drawn bound next state [] drawn are = tt
-live_drawn bound next state (table ∷ levels) drawn are = (
-  drawn (length state.waiting) are.0.file (Table table.entry.number)
-      (ap (λ (ops : List Operation). find (Table table.entry.number) (operated_all ops state.firm)) (take-length state.waiting) ∙ are.0.present.named),
-  live_drawn bound next state levels drawn are.1,
-)
+live_drawn bound next state (table ∷ levels) drawn are =
+    (drawn 0 are.0.file (Table table.entry.number) (are.0.steady.named 0), live_drawn bound next state levels drawn are.1)
 
 made_more : (bound : ℕ) (numbers : List ℕ) (drafts : List Draft) (number : ℕ) (draft : Draft) (state : Disk) → AreMade bound numbers drafts state → IsMade bound (Table number) (bytes_in draft) state
     → AreMade bound (numbers ++ number ∷ []) (drafts ++ draft ∷ []) state
@@ -62,12 +56,12 @@ module _ (s : State) (running : Resumption) (state after : Disk) (one : IsOneToO
     drafts_are : running.job.drafts ≡ at.done ++ draft ∷ rest
     drafts_are = at.drafts_are ∙ ap (λ l. at.done ++ l) rest_is
 
-    no_table : find Current (below kept.bound state.firm) ≡ None → (n : ℕ) → Table next ≡ Table n → ⊥
-    no_table none n is = no_drafts s.numbers.in_tables s.segments.immutable running.job.drafts at.done rest draft (kept.bare at.unmoved none) made.tables.are drafts_are
+    no_table : (before : ℕ) → file_behind before Current kept.old ≡ None → (n : ℕ) → Table next ≡ Table n → ⊥
+    no_table before none n is = no_drafts s.numbers.in_tables s.segments.immutable running.job.drafts at.done rest draft (kept.bare before none) made.tables.are drafts_are
 
-    begins_on : (failed_ : Option Fault) → DiskStep state (Create (Table next)) (as_answer failed_) after → KeptOn kept.bound s.levels s.story (next + 1) state after
+    begins_on : (failed_ : Option Fault) → DiskStep state (Create (Table next)) (as_answer failed_) after → KeptOn kept.bound kept.old s.levels s.story (next + 1) after
     begins_on failed_ step =
-        create_keeps kept.bound s.levels s.story next state one kept.booting at.unmoved after failed_ (Table next) (next + 1)
+        create_keeps kept.bound kept.old s.levels s.story next state one kept.booting at.unmoved after failed_ (Table next) (next + 1)
         (λ count file is. absurd (omega (arith, kept.booting.drawn count file (Table next) is))) (λ is. cc) (λ n is. cc) no_table (omega arith) (omega arith) step
 
     begun : DiskStep state (Create (Table next)) (as_answer None) after → (later : List Act) → left_of running.job ≡ MakeTable ∷ later
@@ -93,9 +87,10 @@ module _ (s : State) (running : Resumption) (state after : Disk) (one : IsOneToO
     pub make_table : (later : List Act) (next_act : Act) (behind : List Act) → left_of running.job ≡ MakeTable ∷ later → later ≡ next_act ∷ behind → later ≡ map AddPiece (pieces_in draft) ++ SyncTable ∷ plan_of rest
         → DiskStep state (Create (Table next)) (as_answer None) after → BootKept (act_done MakeTable running (next_act ∷ behind) s) after
     make_table later next_act behind left some later_is step =
-        goes_on s state after kept at.unmoved (next + 1) _ (one_more MakeTable next running) (omega arith) (begins_on None step) (record {
-          tables = record { are = made.tables.are; few = made.tables.few };
+        goes_on s state after kept (next + 1) _ (one_more MakeTable next running) (omega arith) (begins_on None step) (record {
+          tables = record { are = made.tables.are; some = made.tables.some; few = made.tables.few };
           live_is = made.live_is;
+          unstarted = made.unstarted;
           last_is = made.last_is;
           rising = rising_more running.job.progress.tables next kept.numbered made.rising;
           over = over_more running.job.live running.job.progress.tables next
@@ -104,7 +99,7 @@ module _ (s : State) (running : Resumption) (state after : Disk) (one : IsOneToO
         })
 
     pub make_table_failed : (fault : Fault) → DiskStep state (Create (Table next)) (as_answer (Some fault)) after → BootKept (act_failed MakeTable running.job (failure_of MakeTable fault) s) after
-    make_table_failed fault step = is_over s state after kept at.unmoved (next + 1) _ (failure_of MakeTable fault) (omega arith) (begins_on (Some fault) step)
+    make_table_failed fault step = is_over s state after kept (next + 1) _ (failure_of MakeTable fault) (omega arith) (begins_on (Some fault) step)
 
   -- ---- a piece is added
 
@@ -122,9 +117,9 @@ module _ (s : State) (running : Resumption) (state after : Disk) (one : IsOneToO
     same_name = ap Table (ap latest in_.numbers_are ∙ latest_last in_.numbers in_.number)
 
     module _ (piece : List ℕ) (todo : List (List ℕ)) (todo_is : in_.todo ≡ piece ∷ todo) where
-      adds_on : (failed_ : Option Fault) → DiskStep state (Append name piece) (as_answer failed_) after → KeptOn kept.bound s.levels s.story next state after
+      adds_on : (failed_ : Option Fault) → DiskStep state (Append name piece) (as_answer failed_) after → KeptOn kept.bound kept.old s.levels s.story next after
       adds_on failed_ step =
-          append_keeps kept.bound s.levels s.story next state one kept.booting in_.unmoved after failed_ name (flat_map (λ (p : List ℕ). p) in_.given) piece in_.being step
+          append_keeps kept.bound kept.old s.levels s.story next state one kept.booting in_.unmoved after failed_ name (flat_map (λ (p : List ℕ). p) in_.given) piece in_.being step
 
       added : DiskStep state (Append name piece) (as_answer None) after → (later : List Act) → left_of running.job ≡ AddPiece piece ∷ later → later ≡ map AddPiece todo ++ SyncTable ∷ plan_of in_.rest
           → InTable kept.bound (moved next (AddPiece piece) running.job) after
@@ -149,9 +144,10 @@ module _ (s : State) (running : Resumption) (state after : Disk) (one : IsOneToO
       pub add_piece : (later : List Act) (next_act : Act) (behind : List Act) → left_of running.job ≡ AddPiece piece ∷ later → later ≡ map AddPiece todo ++ SyncTable ∷ plan_of in_.rest
           → DiskStep state (Append name piece) (as_answer None) after → BootKept (act_done (AddPiece piece) running (next_act ∷ behind) s) after
       add_piece later next_act behind left later_is step =
-          goes_on s state after kept in_.unmoved next _ (one_more (AddPiece piece) next running) (omega arith) (adds_on None step) (record {
-            tables = record { are = made.tables.are; few = made.tables.few };
+          goes_on s state after kept next _ (one_more (AddPiece piece) next running) (omega arith) (adds_on None step) (record {
+            tables = record { are = made.tables.are; some = made.tables.some; few = made.tables.few };
             live_is = made.live_is;
+            unstarted = made.unstarted;
             last_is = made.last_is;
             rising = made.rising;
             over = made.over;
@@ -159,7 +155,7 @@ module _ (s : State) (running : Resumption) (state after : Disk) (one : IsOneToO
           })
 
       pub add_piece_failed : (fault : Fault) → DiskStep state (Append name piece) (as_answer (Some fault)) after → BootKept (act_failed (AddPiece piece) running.job (failure_of (AddPiece piece) fault) s) after
-      add_piece_failed fault step = is_over s state after kept in_.unmoved next _ (failure_of (AddPiece piece) fault) (omega arith) (adds_on (Some fault) step)
+      add_piece_failed fault step = is_over s state after kept next _ (failure_of (AddPiece piece) fault) (omega arith) (adds_on (Some fault) step)
 
     -- ---- the table gets firm
 
@@ -167,8 +163,8 @@ module _ (s : State) (running : Resumption) (state after : Disk) (one : IsOneToO
       all_given : flat_map (λ (p : List ℕ). p) in_.given ≡ bytes_in in_.draft
       all_given = ap (flat_map (λ (p : List ℕ). p)) (sym (in_.pieces_are ∙ (ap (λ l. in_.given ++ l) todo_is ∙ append-nil in_.given))) ∙ pieces_joined in_.draft
 
-      syncs_on : (failed_ : Option Fault) → DiskStep state (Sync name) (as_answer failed_) after → KeptOn kept.bound s.levels s.story next state after
-      syncs_on failed_ step = sync_keeps kept.bound s.levels s.story next state one kept.booting in_.unmoved after failed_ name (flat_map (λ (p : List ℕ). p) in_.given) in_.being step
+      syncs_on : (failed_ : Option Fault) → DiskStep state (Sync name) (as_answer failed_) after → KeptOn kept.bound kept.old s.levels s.story next after
+      syncs_on failed_ step = sync_keeps kept.bound kept.old s.levels s.story next state one kept.booting in_.unmoved after failed_ name (flat_map (λ (p : List ℕ). p) in_.given) in_.being step
 
       ended : DiskStep state (Sync name) (as_answer None) after → (later : List Act) → left_of running.job ≡ SyncTable ∷ later → later ≡ plan_of in_.rest → AtTables kept.bound (moved next SyncTable running.job) after
       ended step later left later_is = record {
@@ -186,9 +182,10 @@ module _ (s : State) (running : Resumption) (state after : Disk) (one : IsOneToO
       pub sync_table : (later : List Act) (next_act : Act) (behind : List Act) → left_of running.job ≡ SyncTable ∷ later → later ≡ plan_of in_.rest
           → DiskStep state (Sync name) (as_answer None) after → BootKept (act_done SyncTable running (next_act ∷ behind) s) after
       sync_table later next_act behind left later_is step =
-          goes_on s state after kept in_.unmoved next _ (one_more SyncTable next running) (omega arith) (syncs_on None step) (record {
-            tables = record { are = made.tables.are; few = made.tables.few };
+          goes_on s state after kept next _ (one_more SyncTable next running) (omega arith) (syncs_on None step) (record {
+            tables = record { are = made.tables.are; some = made.tables.some; few = made.tables.few };
             live_is = made.live_is;
+            unstarted = made.unstarted;
             last_is = made.last_is;
             rising = made.rising;
             over = made.over;
@@ -196,4 +193,4 @@ module _ (s : State) (running : Resumption) (state after : Disk) (one : IsOneToO
           })
 
       pub sync_table_failed : (fault : Fault) → DiskStep state (Sync name) (as_answer (Some fault)) after → BootKept (act_failed SyncTable running.job (failure_of SyncTable fault) s) after
-      sync_table_failed fault step = is_over s state after kept in_.unmoved next _ (failure_of SyncTable fault) (omega arith) (syncs_on (Some fault) step)
+      sync_table_failed fault step = is_over s state after kept next _ (failure_of SyncTable fault) (omega arith) (syncs_on (Some fault) step)

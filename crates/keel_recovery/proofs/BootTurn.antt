@@ -211,7 +211,7 @@ module _ (s : State) (running : Resumption) (state after : Disk) (one : IsOneToO
 
     last_turn : RollMade kept.bound running.job next state (SyncDirectory ∷ []) → RollTurn SyncDirectory
     last_turn (m, is, held, current) left fits None step = clears s running state after one kept made parts (gives parts) m held current is step
-    last_turn (m, is, held, current) left fits (Some fault) step = last_failed s state after one kept m current running.job fault step
+    last_turn (m, is, held, current) left fits (Some fault) step = last_failed s state after one kept running.job fault step
 
     roll_turn : (asked : RollCall) → RollMade kept.bound running.job next state (asked ∷ []) → RollTurn asked
     roll_turn MakeManifest so = manifest_turn so

@@ -1,5 +1,5 @@
 -- A store whose boot has cleared is one that writes.
-use Rattle.std.proofs.Common.{◌≡◌, ◌≤◌, List, [], ◌∷◌, ◌++◌, length, take, Option, Some, None, option_map, refl, sym, ap, subst, ◌∙◌, arith, take_all}
+use Rattle.std.proofs.Common.{◌≡◌, ◌≤◌, true, false, List, [], ◌∷◌, ◌++◌, length, take, Option, Some, None, option_map, refl, sym, ap, subst, ◌∙◌, arith, take_all}
 use Rattle.std.proofs.lemmas.List.{append-nil}
 use Rattle.keel_base.specs.Points.{fold_batches}
 use Rattle.keel_base.specs.declared.op.Op.{Op}
@@ -16,32 +16,38 @@ use Rattle.keel_batch.specs.Batches.{AreBatches}
 use Rattle.keel_resume.specs.Plans.{Job}
 use Rattle.keel_recovery.specs.BootTurns.{IsCleared, cleared_log}
 use Rattle.keel_recovery.specs.Flushes.{HasFlush}
-use Rattle.keel_recovery.specs.Machine.{IsKept, HoldsBy, IsAt, AreOnTheirWay, WhileItGoes}
+use Rattle.keel_recovery.specs.Machine.{IsKept, HoldsBy, IsAt, WhileItGoes}
+use Rattle.keel_recovery.specs.Waiting.{AreOnTheirWay, ops_waiting}
 
-on_way : (story : Story) (waiting : List Ticketed) (running : Option Group) → story.limbo ≡ [] → waiting ≡ [] → running ≡ None → AreOnTheirWay story running waiting
-on_way story waiting running none none_wait none_run =
-    subst (λ (w : List Ticketed). AreOnTheirWay story running w) (sym none_wait)
-    (subst (λ (r : Option Group). AreOnTheirWay story r []) (sym none_run) (subst (λ (l : List (List Op)). AreBatches (point_of story).seq (l ++ [])) (sym none) tt))
+on_way : (story : Story) (waiting : List Ticketed) (running : Option Group) → story.limbo ≡ [] → AreBatches (point_of story).seq (ops_waiting waiting) → running ≡ None → AreOnTheirWay story running waiting
+on_way story waiting running none waits none_run =
+    subst (λ (r : Option Group). AreOnTheirWay story r waiting) (sym none_run) (subst (λ (l : List (List Op)). AreBatches (point_of story).seq (l ++ ops_waiting waiting)) (sym none) waits)
 
 -- what is cleared is what a store that writes keeps
-pub clear_kept : (job : Job) (s : State) (device : Seen) (state : Disk) → IsOneToOne state → CutsExist state → 1 ≤ s.numbers.next_file → s.writing.waiting ≡ [] → s.jobs.write.running ≡ None → s.jobs.flush.running ≡ None
+pub clear_kept : (job : Job) (s : State) (device : Seen) (state : Disk) → IsOneToOne state → CutsExist state → 1 ≤ s.numbers.next_file → AreBatches (last_seq s) (ops_waiting s.writing.waiting) → s.jobs.started ≡ false → s.jobs.write.running ≡ None → s.jobs.flush.running ≡ None
     → IsCleared (cleared job s) state → IsKept state (with_device device (cleared job s))
-clear_kept job s device state one cuts numbered none_waits none_runs none_flush h = record {
+clear_kept job s device state one cuts numbered waits unstarted none_runs none_flush h = record {
   one_to_one = one;
   cuts = cuts;
   numbered = numbered;
+  uncut = h.uncut;
   none_boots = refl;
-  stored = by (option_map new_log job.progress.log) s.writing.waiting s.jobs.write.running h.log_is none_waits none_runs;
+  calm = λ started. absurd (never (sym started ∙ unstarted));
+  waits = waits;
+  stored = by (option_map new_log job.progress.log) s.jobs.write.running h.log_is none_runs;
 }
   where
+    never : true ≡ false → ⊥
+    never e = cc
+
     goes_in : (running : Option Group) {goes : Type 0} → goes → WhileItGoes running None goes
     goes_in None h = h
     goes_in (Some group) h = h
 
-    by : (o : Option SegmentLog) (waiting : List Ticketed) (running : Option Group) → o ≡ Some (new_log h.log) → waiting ≡ [] → running ≡ None
-        → HoldsBy o state (cleared job s).levels (cleared_story s.story) [] [] waiting None running s.numbers.next_file (last_seq s) s.jobs.flush.running s.numbers.manifest
-    by o waiting running log none none_too =
-        subst (λ (l : Option SegmentLog). HoldsBy l state (cleared job s).levels (cleared_story s.story) [] [] waiting None running s.numbers.next_file (last_seq s) s.jobs.flush.running s.numbers.manifest) (sym log)
+    by : (o : Option SegmentLog) (running : Option Group) → o ≡ Some (new_log h.log) → running ≡ None
+        → HoldsBy o state (cleared job s).levels (cleared_story s.story) [] [] s.writing.waiting None running s.numbers.next_file (last_seq s) s.jobs.flush.running s.numbers.manifest
+    by o running log none_too =
+        subst (λ (l : Option SegmentLog). HoldsBy l state (cleared job s).levels (cleared_story s.story) [] [] s.writing.waiting None running s.numbers.next_file (last_seq s) s.jobs.flush.running s.numbers.manifest) (sym log)
         (record {
           way = h.way;
           place = length s.story.log;
@@ -57,6 +63,6 @@ clear_kept job s device state one cuts numbered none_waits none_runs none_flush 
           order = goes_in running (
             h.grows,
             subst (λ (r : Option Group). IsAt state (cleared_story s.story) s.numbers.next_file (cleared_log h.log (cleared job s)) r) (sym none_too) refl,
-            on_way (cleared_story s.story) waiting running refl none none_too,
+            on_way (cleared_story s.story) s.writing.waiting running refl waits none_too,
           );
         })

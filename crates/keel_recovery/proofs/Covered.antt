@@ -1,5 +1,5 @@
 -- What a covered device gives, and calls that leave it covered.
-use Rattle.std.proofs.Common.{◌≡◌, ℕ, ◌||◌, Bool, true, false, List, Option, Some, None, refl, sym, subst}
+use Rattle.std.proofs.Common.{◌≡◌, inl, inr, ℕ, ◌||◌, Bool, true, false, List, Option, Some, None, refl, sym, subst}
 use Rattle.keel_base.specs.declared.failure.Fault.{Fault}
 use Rattle.keel_disk.specs.declared.change.Change.{Change}
 use Rattle.keel_disk.specs.State.{State as Disk}
@@ -13,7 +13,7 @@ use Rattle.keel_machine.specs.States.{State, Footing, Known, Unknown, Phase, Shu
 use Rattle.keel_recovery.specs.BootCalls.{BootKept, RunsSo}
 use Rattle.keel_recovery.specs.Machine.{RestsIn, StandsIn, KeptBy, IsCoveredBy, IsCovered, CoveredStands, StartsCovered}
 use Rattle.keel_recovery.specs.Standing.{Stands}
-use Rattle.keel_recovery.proofs.Kept.{kept_stands, booting_store_stands}
+use Rattle.keel_recovery.proofs.Kept.{open_stands, booting_store_stands}
 
 -- ---- what a covered device gives
 
@@ -21,7 +21,7 @@ kept_by_stands : (phase : Phase) (left : Bool) (told : Told) (s : State) → (is
 kept_by_stands Shut false told s begun h = cc
 kept_by_stands Shut true told s begun h = h.stands
 kept_by_stands Booting left told s begun h = booting_store_stands told.state s h
-kept_by_stands Open left told s begun h = kept_stands told.state s h
+kept_by_stands Open left told s begun h = open_stands told.state s h
 
 stands_by : (f : Footing) (told : Option Told) (s : State) → f ≡ Known → has_story s.mode ≡ true → IsCoveredBy f s.mode told s → StandsIn told s.story
 stands_by Unknown told s known begun h = cc
@@ -79,18 +79,18 @@ runs_same : (bound : ℕ) (state : Disk) (s : State) (device : Seen) (outcomes :
     → RunsSo bound (with_device device (record s { writing = record s.writing { outcomes = outcomes } })) running state
 runs_same bound state s device outcomes None r = r
 runs_same bound state s device outcomes (Some running) r =
-    record { tables = record { are = r.tables.are; few = r.tables.few }; live_is = r.live_is; last_is = r.last_is; rising = r.rising; over = r.over; stage = r.stage }
+    record { tables = record { are = r.tables.are; some = r.tables.some; few = r.tables.few }; live_is = r.live_is; unstarted = r.unstarted; last_is = r.last_is; rising = r.rising; over = r.over; stage = r.stage }
 
 pub same_boot : (state : Disk) (s : State) (device : Seen) (outcomes : List (ℕ × Outcome)) → BootKept s state → BootKept (with_device device (record s { writing = record s.writing { outcomes = outcomes } })) state
 same_boot state s device outcomes k = record {
   bound = k.bound;
   booting = k.booting;
-  after = k.after;
+  old = k.old;
+  floor_within = k.floor_within;
   facts = k.facts;
-  unbegun = k.unbegun;
   runs = runs_same k.bound state s device outcomes s.jobs.resume.running k.runs;
   none_active = k.none_active;
-  none_waits = k.none_waits;
+  waits = k.waits;
   no_group = k.no_group;
   no_flush = k.no_flush;
   numbered = k.numbered;
@@ -102,8 +102,18 @@ same_kept : (phase : Phase) (left : Bool) (state : Disk) (s : State) (device : S
     → KeptBy phase left state (with_device device (record s { writing = record s.writing { outcomes = outcomes } }))
 same_kept Shut false state s device outcomes h = h
 same_kept Shut true state s device outcomes h = h
-same_kept Booting left state s device outcomes h = record { one_to_one = h.one_to_one; cuts = h.cuts; kept = same_boot state s device outcomes h.kept }
-same_kept Open left state s device outcomes h = record { one_to_one = h.one_to_one; cuts = h.cuts; numbered = h.numbered; none_boots = h.none_boots; stored = h.stored }
+same_kept Booting left state s device outcomes h = record { one_to_one = h.one_to_one; cuts = h.cuts; kept = same_boot state s device outcomes h.kept; none_waits = h.none_waits }
+same_kept Open left state s device outcomes (inl h) = inl (record {
+  one_to_one = h.one_to_one;
+  cuts = h.cuts;
+  uncut = h.uncut;
+  numbered = h.numbered;
+  none_boots = h.none_boots;
+  calm = λ started. let calm = h.calm started in record { no_group = calm.no_group; no_flush = calm.no_flush; stopped = calm.stopped };
+  waits = h.waits;
+  stored = h.stored;
+})
+same_kept Open left state s device outcomes (inr h) = inr (record { one_to_one = h.one_to_one; cuts = h.cuts; kept = same_boot state s device outcomes h.kept; stopped = h.stopped })
 
 pub same_keeps : (s : State) (device : Seen) (outcomes : List (ℕ × Outcome)) → device.told ≡ s.device.told → IsCovered s → IsCovered (with_device device (record s { writing = record s.writing { outcomes = outcomes } }))
 same_keeps s device outcomes same h =

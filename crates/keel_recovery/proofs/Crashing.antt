@@ -16,7 +16,7 @@ use Rattle.keel_machine.specs.States.{State, Footing, Known, Unknown, Phase, Shu
 use Rattle.keel_directory.specs.Standing.{ReadsAs}
 use Rattle.keel_recovery.specs.Machine.{IsFirst, IsLeft, KeptBy, IsCoveredBy, IsCovered, CrashTurns}
 use Rattle.keel_recovery.specs.Standing.{ReadsIn, Stands}
-use Rattle.keel_recovery.proofs.Kept.{kept_stands, booting_store_stands}
+use Rattle.keel_recovery.proofs.Kept.{open_one, open_stands, booting_store_stands}
 use Rattle.keel_disk.proofs.Resting.{rest_has_one}
 use Rattle.keel_directory.specs.Reading.{IsReading}
 use Rattle.keel_recovery.proofs.Crashed.{reading_leaves, read_restarted}
@@ -63,7 +63,7 @@ crash_kept : (phase : Phase) (left : Bool) (count : ℕ) (s : State) (before aft
 crash_kept Shut false count s before after device plain of h = first_again before after h plain
 crash_kept Shut true count s before after device plain of h = prefix_left after.state count s.story (plain_rests before after h.at_rest.sound.one_to_one plain) of
 crash_kept Booting left count s before after device plain of h = prefix_left after.state count s.story (plain_rests before after h.one_to_one plain) of
-crash_kept Open left count s before after device plain of h = prefix_left after.state count s.story (plain_rests before after h.one_to_one plain) of
+crash_kept Open left count s before after device plain of h = prefix_left after.state count s.story (plain_rests before after (open_one before.state s h) plain) of
 
 crash_by : (f : Footing) (before after : Option Told) (kept : Option ℕ) (s : State) (device : Seen) → f ≡ s.footing → Leaves f s.mode s.story before kept after
     → IsCoveredBy f s.mode before s
@@ -100,7 +100,7 @@ left_of : (phase : Phase) (left : Bool) (s : State) (before : Told) (image : Nam
 left_of Shut false s before image h plain = (0, tt)
 left_of Shut true s before image h plain = stands_prefix before.state s.story image h.at_rest.sound.one_to_one h.stands plain
 left_of Booting left s before image h plain = stands_prefix before.state s.story image h.one_to_one (booting_store_stands before.state s h) plain
-left_of Open left s before image h plain = stands_prefix before.state s.story image h.one_to_one (kept_stands before.state s h) plain
+left_of Open left s before image h plain = stands_prefix before.state s.story image (open_one before.state s h) (open_stands before.state s h) plain
 
 known_left : (s : State) (before after : Told) → KeptBy s.mode.phase (is_left s.mode.left) before.state s → CrashedTo before after
     → (kept : Option ℕ) × Leaves Known s.mode s.story (Some before) kept (Some after)

@@ -19,7 +19,8 @@ use Rattle.keel_machine.specs.Admission.{ops_of}
 use Rattle.keel_group.specs.Queue.{Ticketed}
 use Rattle.keel_machine.specs.States.{State, Story, SegmentLog, Segment, Group, Act, point_of, handed}
 use Rattle.keel_recovery.specs.Calls.{point_handed, grown}
-use Rattle.keel_recovery.specs.Machine.{ops_waiting, AreOnTheirWay, HasLog}
+use Rattle.keel_recovery.specs.Machine.{HasLog}
+use Rattle.keel_recovery.specs.Waiting.{AreOnTheirWay, ops_waiting}
 use Rattle.keel_recovery.specs.Roots.{point_at}
 use Rattle.keel_recovery.proofs.FlushKept.{flush_on, flush_stops, longer_last, longer_same}
 use Rattle.keel_recovery.proofs.Framing.{create_keeps}

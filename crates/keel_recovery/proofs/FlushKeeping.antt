@@ -1,6 +1,6 @@
 -- A flush step leaves the device covered.
 use Rattle.std.specs.Prelude.{not, ◌&&◌, ◌||◌, is_some, nat_le}
-use Rattle.std.proofs.Common.{◌≡◌, ℕ, ◌+◌, ◌^◌, ◌<◌, ◌≤◌, Bool, true, false, if◌then◌else◌, List, [], ◌∷◌, length, Option, Some, None, option_map, refl, sym, ap, subst, ◌∙◌, arith}
+use Rattle.std.proofs.Common.{◌≡◌, inl, inr, ℕ, ◌+◌, ◌^◌, ◌<◌, ◌≤◌, Bool, true, false, if◌then◌else◌, List, [], ◌∷◌, length, Option, Some, None, option_map, refl, sym, ap, subst, ◌∙◌, arith}
 use Rattle.std.proofs.lemmas.Bool.{leb-false, leb-true}
 use Rattle.keel_base.specs.declared.failure.Counter.TheVariants.{FileNumber, JobNumber}
 use Rattle.keel_base.specs.declared.failure.Failure.{Failure}
@@ -15,12 +15,15 @@ use Rattle.keel_machine.specs.declared.steps.JobStep.{JobStep}
 use Rattle.keel_machine.specs.declared.steps.JobStep.TheVariants as step
 use Rattle.keel_machine.specs.Admission.{standing, stopping}
 use Rattle.keel_machine.specs.Flushing.{FlushAnswers, IsDraftFor, MadeCall, Makes, acts_of, call_done, call_failed, cancelled, first_done, first_failed, flush_after, flush_done, flush_failed, flush_ready, is_file_spent, is_start_spent, may_flush, started_or, writes}
-use Rattle.keel_machine.specs.States.{State, Phase, Shut, Booting, Open, Mode, Resumption, Slot, is_left, with_device}
+use Rattle.keel_machine.specs.States.{State, Phase, Shut, Booting, Open, Mode, Resumption, Slot, Story, Writing, is_left, point_of, with_device}
 use Rattle.keel_machine.specs.Tests.{differing, first_some, when}
 use Rattle.keel_machine.proofs.FirstTests.{none_later, none_of, none_when}
 use Rattle.keel_recovery.specs.Machine.{IsCovered, IsKept, IsStored, KeptBy}
 use Rattle.keel_recovery.proofs.Covered.{as_it_is, call_keeps}
 use Rattle.keel_recovery.proofs.FlushStored.{begun_stored, flush_done_stored, flush_failed_stored}
+use Rattle.keel_batch.specs.Batches.{AreBatches}
+use Rattle.keel_recovery.specs.Waiting.{ops_waiting}
+use Rattle.keel_recovery.proofs.NoCuts.{CutsNothing, no_cuts_stay}
 use Rattle.keel_recovery.proofs.Ordering.{went_well, went_wrong}
 
 -- what a flush step leaves as it was
@@ -29,9 +32,11 @@ pub record IsBeside (s next : State) : Type 0 where
   pub footing : next.footing ≡ s.footing
   pub story : next.story ≡ s.story
   pub resume : next.jobs.resume ≡ s.jobs.resume
+  pub started : next.jobs.started ≡ s.jobs.started
+  pub writing : next.writing ≡ s.writing
 
 beside_both : (s mid next : State) → IsBeside s mid → IsBeside mid next → IsBeside s next
-beside_both s mid next a b = record { mode = b.mode ∙ a.mode; footing = b.footing ∙ a.footing; story = b.story ∙ a.story; resume = b.resume ∙ a.resume }
+beside_both s mid next a b = record { mode = b.mode ∙ a.mode; footing = b.footing ∙ a.footing; story = b.story ∙ a.story; resume = b.resume ∙ a.resume; started = b.started ∙ a.started; writing = b.writing ∙ a.writing }
 
 -- a number may be drawn
 next_more : (a : Act) (next : ℕ) → next ≤ next_behind a next
@@ -40,6 +45,18 @@ next_more a next = more (draws a)
     more : (b : Bool) → next ≤ (if b then next + 1 else next)
     more true = omega arith
     more false = omega arith
+
+-- what a store that writes keeps
+kept_written : (phase : Phase) (left : Bool) (state : Disk) (n : State) → writes phase ≡ true → IsKept state n → KeptBy phase left state n
+kept_written Shut left state n is h = absurd (never is)
+  where
+    never : false ≡ true → ⊥
+    never e = cc
+kept_written Booting left state n is h = absurd (never is)
+  where
+    never : false ≡ true → ⊥
+    never e = cc
+kept_written Open left state n is h = inl h
 
 -- ---- in a step that makes a call
 
@@ -103,23 +120,55 @@ module _ (s : State) (draft : Draft) (held : Option ℕ) (job : Job) (act : Act)
       by (Some own) runs same = h
 
   same_ready : (running : Option Job) → IsBeside s (started_or running draft s)
-  same_ready None = record { mode = refl; footing = refl; story = refl; resume = refl }
-  same_ready (Some own) = record { mode = refl; footing = refl; story = refl; resume = refl }
+  same_ready None = record { mode = refl; footing = refl; story = refl; resume = refl; started = refl; writing = refl }
+  same_ready (Some own) = record { mode = refl; footing = refl; story = refl; resume = refl; started = refl; writing = refl }
 
   acts_done : (acts : List Act) → IsBeside at (first_done job acts at)
-  acts_done [] = record { mode = refl; footing = refl; story = refl; resume = refl }
-  acts_done (a ∷ []) = record { mode = refl; footing = refl; story = refl; resume = refl }
-  acts_done (a ∷ b ∷ rest) = record { mode = refl; footing = refl; story = refl; resume = refl }
+  acts_done [] = record { mode = refl; footing = refl; story = refl; resume = refl; started = refl; writing = refl }
+  acts_done (a ∷ []) = record { mode = refl; footing = refl; story = refl; resume = refl; started = refl; writing = refl }
+  acts_done (a ∷ b ∷ rest) = record { mode = refl; footing = refl; story = refl; resume = refl; started = refl; writing = refl }
 
   acts_failed : (acts : List Act) (failure : Failure) → IsBeside at (first_failed job acts failure at)
-  acts_failed [] failure = record { mode = refl; footing = refl; story = refl; resume = refl }
-  acts_failed (a ∷ rest) failure = record { mode = refl; footing = refl; story = refl; resume = refl }
+  acts_failed [] failure = record { mode = refl; footing = refl; story = refl; resume = refl; started = refl; writing = refl }
+  acts_failed (a ∷ rest) failure = record { mode = refl; footing = refl; story = refl; resume = refl; started = refl; writing = refl }
+
+  -- nothing was asked for, since writes aren't stopped
+  not_stopped : {P : Type 0} → is_some (stopping s) ≡ true → P
+  not_stopped stopped = absurd (never (sym (ap (λ (o : Option Failure). is_some o) calm) ∙ stopped))
+    where
+      never : false ≡ true → ⊥
+      never e = cc
+
+  not_running : {P : Type 0} → at.jobs.flush.running ≡ None → P
+  not_running none = absurd (never (sym makes.running_is ∙ none))
+    where
+      never : Some job ≡ None → ⊥
+      never e = cc
+
+  waits_on : (before next : State) → IsBeside before next → AreBatches (point_of before.story).seq (ops_waiting before.writing.waiting) → AreBatches (point_of next.story).seq (ops_waiting next.writing.waiting)
+  waits_on before next beside waits =
+      subst (λ (story : Story). AreBatches (point_of story).seq (ops_waiting next.writing.waiting)) (sym beside.story)
+      (subst (λ (w : Writing). AreBatches (point_of before.story).seq (ops_waiting w.waiting)) (sym beside.writing) waits)
+
+  cuts_nothing : CutsNothing (change_of job at.numbers.next_file at.numbers.manifest act)
+  cuts_nothing = by act
+    where
+      by : (a : Act) → CutsNothing (change_of job at.numbers.next_file at.numbers.manifest a)
+      by MakeTable = tt
+      by (AddPiece bytes) = tt
+      by SyncTable = tt
+      by SyncName = tt
+      by AppendEdit = tt
+      by SyncManifest = tt
 
   pub ready_kept : (state : Disk) → IsKept state s → IsKept state at
   ready_kept state h = record {
     one_to_one = h.one_to_one;
     cuts = h.cuts;
+    uncut = h.uncut;
     numbered = subst (λ n. 1 ≤ n) (sym (ap (λ n. n.next_file) same_numbers)) h.numbered;
+    calm = λ started. not_stopped (h.calm (sym (same_ready s.jobs.flush.running).started ∙ started)).stopped;
+    waits = waits_on s at (same_ready s.jobs.flush.running) h.waits;
     none_boots = ap (λ (slot : Slot Resumption). slot.running) (same_ready s.jobs.flush.running).resume ∙ h.none_boots;
     stored = ready_stored state h.stored;
   }
@@ -147,7 +196,10 @@ module _ (s : State) (draft : Draft) (held : Option ℕ) (job : Job) (act : Act)
   done_kept before behind h step = subst (IsKept behind) (sym done_is) (record {
     one_to_one = one_stays (change_of job at.numbers.next_file at.numbers.manifest act) went_well before behind (gives_names h.numbered) h.one_to_one step;
     cuts = cuts_stay (change_of job at.numbers.next_file at.numbers.manifest act) went_well before behind h.one_to_one h.cuts step;
+    uncut = no_cuts_stay (change_of job at.numbers.next_file at.numbers.manifest act) went_well before behind cuts_nothing h.uncut step;
     numbered = omega (arith, h.numbered, files_done (left_of job));
+    calm = λ started. not_running (h.calm (sym (acts_done (left_of job)).started ∙ started)).no_flush;
+    waits = waits_on at _ (acts_done (left_of job)) h.waits;
     none_boots = ap (λ (slot : Slot Resumption). slot.running) (acts_done (left_of job)).resume ∙ h.none_boots;
     stored = flush_done_stored at job act later makes.running_is makes.next h.numbered below before behind h.one_to_one h.cuts h.stored step;
   })
@@ -161,7 +213,10 @@ module _ (s : State) (draft : Draft) (held : Option ℕ) (job : Job) (act : Act)
   failed_kept fault before behind h step = subst (IsKept behind) (sym (failed_is (failure_of act fault))) (record {
     one_to_one = one_stays (change_of job at.numbers.next_file at.numbers.manifest act) (went_wrong fault) before behind (gives_names h.numbered) h.one_to_one step;
     cuts = cuts_stay (change_of job at.numbers.next_file at.numbers.manifest act) (went_wrong fault) before behind h.one_to_one h.cuts step;
+    uncut = no_cuts_stay (change_of job at.numbers.next_file at.numbers.manifest act) (went_wrong fault) before behind cuts_nothing h.uncut step;
     numbered = omega (arith, h.numbered, files_failed (left_of job));
+    calm = λ started. not_running (h.calm (sym (acts_failed (left_of job) (failure_of act fault)).started ∙ started)).no_flush;
+    waits = waits_on at _ (acts_failed (left_of job) (failure_of act fault)) h.waits;
     none_boots = ap (λ (slot : Slot Resumption). slot.running) (acts_failed (left_of job) (failure_of act fault)).resume ∙ h.none_boots;
     stored = flush_failed_stored at job act later fault makes.running_is makes.next h.numbered below before behind h.one_to_one h.cuts h.stored step;
   })
@@ -184,18 +239,23 @@ module _ (s : State) (draft : Draft) (held : Option ℕ) (job : Job) (act : Act)
   pub while_open : (phase : Phase) (left : Bool) (state : Disk) → writes phase ≡ true → KeptBy phase left state s → IsKept state s
   while_open Shut left state is h = cc
   while_open Booting left state is h = cc
-  while_open Open left state is h = h
+  while_open Open left state is (inl h) = h
+  while_open Open left state is (inr h) = not_stopped h.stopped
 
   kept_as : (m : Mode) (state : Disk) (n : State) → writes m.phase ≡ true → IsKept state n → KeptBy m.phase (is_left m.left) state n
-  kept_as m state n is h = by m.phase is
-    where
-      by : (phase : Phase) → writes phase ≡ true → KeptBy phase (is_left m.left) state n
-      by Shut is = cc
-      by Booting is = cc
-      by Open is = h
+  kept_as m state n is h = kept_written m.phase (is_left m.left) state n is h
 
   told_kept : (state : Disk) (n : State) (device : Seen) → IsKept state n → IsKept state (with_device device n)
-  told_kept state n device h = record { one_to_one = h.one_to_one; cuts = h.cuts; numbered = h.numbered; none_boots = h.none_boots; stored = h.stored }
+  told_kept state n device h = record {
+    one_to_one = h.one_to_one;
+    cuts = h.cuts;
+    uncut = h.uncut;
+    numbered = h.numbered;
+    none_boots = h.none_boots;
+    calm = λ started. let c = h.calm started in record { no_group = c.no_group; no_flush = c.no_flush; stopped = c.stopped };
+    waits = h.waits;
+    stored = h.stored;
+  }
 
   pub done_keeps : (device : Seen) → MadeCall s draft held job act later None device → IsCovered s → IsCovered (with_device device (call_done draft s))
   done_keeps device made h =

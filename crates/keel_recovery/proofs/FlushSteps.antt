@@ -19,7 +19,8 @@ use Rattle.keel_recovery.specs.Calls.{Answer, AllReach, CanGrow}
 use Rattle.keel_recovery.specs.Chains.{AreChained, Chained}
 use Rattle.keel_recovery.specs.FlushEdits.{IsInUse, all_firm, with_edit}
 use Rattle.keel_recovery.specs.FlushFiles.{IsOfNoLog}
-use Rattle.keel_recovery.specs.Machine.{AreOnTheirWay, AtStage, HasMade, IsAt, WhileItGoes}
+use Rattle.keel_recovery.specs.Machine.{AtStage, HasMade, IsAt, WhileItGoes}
+use Rattle.keel_recovery.specs.Waiting.{AreOnTheirWay}
 use Rattle.keel_recovery.specs.Roots.{Way, version_behind}
 use Rattle.keel_recovery.proofs.FlushEditing.{only_way}
 use Rattle.keel_recovery.proofs.FlushStays.{logs_stay}

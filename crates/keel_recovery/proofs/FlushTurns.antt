@@ -30,7 +30,8 @@ use Rattle.keel_recovery.specs.FlushEdits.{FlushGives, IsInUse, IsOfNoManifest, 
 use Rattle.keel_recovery.specs.FlushFiles.{AreTablesBelow, IsBegun, IsFast, IsOfNoLog, IsWhole}
 use Rattle.keel_recovery.specs.Flushes.{AtEdit, AtName, AtSync, FlushesBy, HasFlush, HasMade, HasTable, InTable, IsBeforeEdit, IsFlushing, IsReady, first_number}
 use Rattle.keel_recovery.specs.Keeping.{HoldStory, Keeps}
-use Rattle.keel_recovery.specs.Machine.{AreFull, AreOnTheirWay, HasLog, IsAt, WhileItGoes}
+use Rattle.keel_recovery.specs.Machine.{AreFull, HasLog, IsAt, WhileItGoes}
+use Rattle.keel_recovery.specs.Waiting.{AreOnTheirWay}
 use Rattle.keel_recovery.specs.Roots.{IsRoot, Way, point_at}
 use Rattle.keel_recovery.proofs.BootTables.{pieces_joined}
 use Rattle.keel_recovery.proofs.FlushEditing.{edit_append_keeps, edit_sync_keeps}

@@ -12,11 +12,15 @@ use Rattle.keel_machine.specs.declared.answers.Admit.{Admit}
 use Rattle.keel_machine.specs.declared.answers.Admit.TheVariants as admit
 use Rattle.keel_machine.specs.declared.steps.WriteStep.{WriteStep}
 use Rattle.keel_machine.specs.declared.steps.WriteStep.TheVariants as step
-use Rattle.keel_machine.specs.Admission.{admit_after}
+use Rattle.keel_base.specs.declared.failure.Failure.{Failure}
+use Rattle.keel_machine.specs.Admission.{admit_after, standing}
 use Rattle.keel_machine.specs.Crash.{Leaves, CrashAnswers, crash_after}
 use Rattle.keel_machine.specs.Outside.{as_answer}
 use Rattle.keel_machine.specs.States.{State, Footing, Known, Unknown, Mode, Story, Resumption, Group, Act, with_device}
-use Rattle.keel_machine.specs.Turns.{Event, Opening, Admitting, Writing, Resuming, Flushing, TakingOutcome, Getting, Scanning, Listing, TellingError, TellingLevels, Arranging, Crashing, Finishing, Answers, after}
+use Rattle.keel_machine.specs.Turns.{Event, Opening, Admitting, Writing, Resuming, Flushing, TakingOutcome, Getting, Scanning, Listing, TellingError, TellingLevels, Arranging, Crashing, Starting, Finishing, Answers, after}
+use Rattle.keel_machine.specs.Starting.{group_turned, job_started, start_after}
+use Rattle.keel_machine.specs.declared.answers.Start.{Start}
+use Rattle.keel_machine.specs.declared.answers.Start.TheVariants as start
 use Rattle.keel_machine.specs.Writing.{ready, change_of}
 use Rattle.keel_machine.specs.WritingAfter.{WriteAnswers, MadeCall, call_done, call_failed, write_after}
 use Rattle.keel_recovery.specs.Machine.{forged_of, IsCounted, FootingStays}
@@ -185,6 +189,18 @@ admit_keeps first s batch (admit.Spent counter) device same h = same_told first 
 admit_keeps first s batch (admit.QueueFull waiting) device same h = same_told first s _ same refl h
 admit_keeps first s batch admit.OutOfMemory device same h = same_told first s _ same refl h
 
+start_keeps : (first : ℕ) (s : State) (start : Start) (device : Seen) → device.told ≡ s.device.told → IsCounted first s → IsCounted first (with_device device (start_after s start))
+start_keeps first s start.Nothing device same h = same_told first s _ same refl h
+start_keeps first s (start.Busy job) device same h = same_told first s _ same refl h
+start_keeps first s (start.Beyond failure) device same h = same_told first s _ same refl h
+start_keeps first s start.Cleared device same h = same_told first s _ same refl h
+start_keeps first s (start.Spent counter) device same h = same_told first s _ same refl h
+start_keeps first s (start.Started job) device same h = same_told first s _ same (footing_turned (standing s)) h
+  where
+    footing_turned : (failure : Option Failure) → (job_started (group_turned failure s)).footing ≡ s.footing
+    footing_turned None = refl
+    footing_turned (Some failure) = refl
+
 answer_keeps : (first : ℕ) (s : State) (event : Event) (device : Seen) → first < 2 ^ 64 - 1 → Answers s event device → IsCounted first s → IsCounted first (after s event device)
 answer_keeps first s (Opening options (Ok found)) device bound a h = same_told first s _ a.quiet.same refl h
 answer_keeps first s (Opening options (Err refused_by)) device bound a h = same_told first s _ a.quiet.same refl h
@@ -200,6 +216,7 @@ answer_keeps first s (TellingError failure) device bound a h = same_told first s
 answer_keeps first s (TellingLevels view) device bound a h = same_told first s _ (ap (λ (d : Seen). d.told) a.1) refl h
 answer_keeps first s (Arranging rule answer) device bound a h = arranged_keeps first s rule answer device a h
 answer_keeps first s (Crashing pick kept) device bound a h = crash_keeps first s pick kept device bound a h
+answer_keeps first s (Starting start) device bound a h = start_keeps first s start device (ap (λ (d : Seen). d.told) a.1) h
 answer_keeps first s Finishing device bound a h = same_told first s _ (ap (λ (d : Seen). d.told) a) refl h
 
 pub footing_stays : FootingStays

@@ -5,21 +5,20 @@ use Rattle.keel_base.specs.Points.{fold_batches}
 use Rattle.keel_base.specs.declared.failure.Failure.{Failure}
 use Rattle.keel_base.specs.declared.failure.Fault.{Fault}
 use Rattle.keel_disk.specs.Directory.{Named}
-use Rattle.keel_disk.specs.State.{State as Disk}
 use Rattle.keel_disk.specs.Told.{Told}
 use Rattle.keel_group.specs.Queue.{Ticketed}
 use Rattle.keel_machine.specs.Admission.{ops_of}
-use Rattle.keel_machine.specs.States.{State, is_open, is_left, Known, Open, Phase, Shut, Booting, Story, Group, Act, CloseLog, MakeLog, SyncDirectory, AddRecords, SyncLog, left_of, handed, published, Footing}
+use Rattle.keel_machine.specs.States.{State, is_left, Known, Story, Group, Act, CloseLog, MakeLog, SyncDirectory, AddRecords, SyncLog, left_of, handed, published, Footing}
 use Rattle.keel_machine.specs.Writing.{started, started_or, ready, change_of}
 use Rattle.keel_machine.specs.WritingAfter.{switched, failure_of, first_done, group_done, first_failed, group_failed, call_done}
-use Rattle.keel_recovery.specs.Machine.{IsStored, IsKept, KeptBy, story_behind, InsideStep}
+use Rattle.keel_recovery.specs.Machine.{IsStored, IsKept, story_behind, InsideStep}
 use Rattle.keel_recovery.specs.Standing.{ReadsIn}
 use Rattle.keel_recovery.proofs.Grouping.{group_done_stored}
 use Rattle.keel_recovery.proofs.Inside.{call_leaves_prefix}
 use Rattle.keel_disk.proofs.Staying.{one_stays}
 use Rattle.keel_recovery.proofs.Ordering.{went_well}
 use Rattle.keel_recovery.proofs.Kept.{stored_stands, stored_floor, kept_stands}
-use Rattle.keel_recovery.proofs.WriteTurns.{below_of, gives_names, no_group_made, ready_file}
+use Rattle.keel_recovery.proofs.WriteTurns.{below_of, gives_names, kept_open, ready_file}
 use Rattle.keel_recovery.proofs.Covered.{OpenBy, covered_by}
 use Rattle.keel_recovery.proofs.Turning.{ready_keeps}
 
@@ -91,15 +90,9 @@ behind_answer (Some fault) s group image runs within reads =
     subst (λ (running : Option Group). AsksLess (group_done running (ready s)).story (group_failed running failure (ready s)).story) (sym runs) (less_asked group (left_of group) failure (ready s) within) in
     reads_less (call_done s).story (story_behind s (Some fault)) image less reads
 
--- a store whose group makes a call is one that writes
-kept_open : (phase : Phase) (left : Bool) (state : Disk) (s : State) (group : Group) → is_open phase ≡ true → (ready s).jobs.write.running ≡ Some group → KeptBy phase left state s → IsKept state s
-kept_open Shut left state s group is runs h = cc
-kept_open Booting left state s group is runs h = absurd (no_group_made s group h.kept.none_waits h.kept.no_group runs)
-kept_open Open left state s group is runs h = h
-
 pub inside_step : InsideStep
 inside_step s told held group act later failed device is known h tells made image mid =
-    let kept : IsKept told.state s = kept_open s.mode.phase (is_left s.mode.left) told.state s group is made.makes.group_is (subst (λ (t : Option Told). OpenBy Known t s) tells (subst (λ (f : Footing). OpenBy f s.device.told s) known (covered_by s h))) in
+    let kept : IsKept told.state s = (kept_open s.mode.phase (is_left s.mode.left) told.state s held group made.makes.no_rest is made.makes.group_is (subst (λ (t : Option Told). OpenBy Known t s) tells (subst (λ (f : Footing). OpenBy f s.device.told s) known (covered_by s h)))).1 in
     let at = ready s in
     let stored : IsStored told.state at = ready_keeps told.state s held made.makes.no_rest kept.stored in
     let within = stored_floor told.state at stored in

@@ -1,5 +1,5 @@
 -- What is kept of the device of an open store gives what it stands for.
-use Rattle.std.proofs.Common.{ℕ, ◌≤◌, List, [], ◌∷◌, ◌++◌, length, Option, Some, None}
+use Rattle.std.proofs.Common.{◌⊎◌, inl, inr, ℕ, ◌≤◌, List, [], ◌∷◌, ◌++◌, length, Option, Some, None}
 use Rattle.keel_base.specs.declared.failure.Failure.{Failure}
 use Rattle.keel_base.specs.declared.op.Op.{Op}
 use Rattle.keel_directory.specs.TableFiles.{TableFile}
@@ -10,7 +10,8 @@ use Rattle.keel_flush.specs.Plans.{Job as FlushJob}
 use Rattle.keel_manifest.specs.State.{ManifestState}
 use Rattle.keel_machine.specs.Admission.{stopping}
 use Rattle.keel_machine.specs.States.{State, Story, SegmentLog, Segment, Group}
-use Rattle.keel_recovery.specs.Machine.{HoldsBy, IsStored, IsKept, IsBootingStore}
+use Rattle.keel_recovery.specs.Machine.{HoldsBy, IsStored, IsKept, IsTakenOver, IsBootingStore}
+use Rattle.keel_recovery.specs.BootCalls.{BootKept}
 use Rattle.keel_recovery.specs.Standing.{Stands}
 use Rattle.keel_recovery.proofs.BootRolls.{booting_stands}
 use Rattle.keel_recovery.proofs.Stands.{keeping_stands}
@@ -36,5 +37,17 @@ stored_floor state s h =
 pub kept_stands : (state : Disk) (s : State) → IsKept state s → Stands state s.story
 kept_stands state s h = stored_stands state s h.one_to_one h.stored
 
+pub boot_stands : (state : Disk) (s : State) → IsOneToOne state → BootKept s state → Stands state s.story
+boot_stands state s one k = booting_stands k.bound k.old s.levels s.story s.numbers.next_file state one k.floor_within k.booting
+
 pub booting_store_stands : (state : Disk) (s : State) → IsBootingStore state s → Stands state s.story
-booting_store_stands state s h = booting_stands h.kept.bound s.levels s.story s.numbers.next_file state h.one_to_one h.kept.after h.kept.booting
+booting_store_stands state s h = boot_stands state s h.one_to_one h.kept
+
+-- an open store, whether it writes or a resume took it over
+pub open_one : (state : Disk) (s : State) → IsKept state s ⊎ IsTakenOver state s → IsOneToOne state
+open_one state s (inl kept) = kept.one_to_one
+open_one state s (inr taken) = taken.one_to_one
+
+pub open_stands : (state : Disk) (s : State) → IsKept state s ⊎ IsTakenOver state s → Stands state s.story
+open_stands state s (inl kept) = kept_stands state s kept
+open_stands state s (inr taken) = boot_stands state s taken.one_to_one taken.kept

@@ -11,10 +11,15 @@ pub mod Showing
 pub mod Rooting
 pub mod Stands
 pub mod BootNames
+pub mod NoCuts
 pub mod BootImages
 pub mod BootReading
 pub mod BootStands
 pub mod BootRolls
+pub mod BootTaken
+pub mod TakenOver
+pub mod StillStopped
+pub mod StartTurns
 pub mod BootOpened
 pub mod BootFrame
 pub mod Passing
@@ -53,6 +58,7 @@ pub mod Failing
 pub mod Grouping
 pub mod Sizes
 pub mod Turning
+pub mod WaitingOn
 pub mod Unchanged
 pub mod Kept
 pub mod Crashing

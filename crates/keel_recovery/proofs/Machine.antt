@@ -16,7 +16,7 @@ use Rattle.keel_directory.proofs.OneReading.{reading_one}
 use Rattle.keel_machine.specs.Admission.{without_outcome}
 use Rattle.keel_machine.specs.Opening.{Found, IsFoundIn, IsFoundBy, goes_on_from, OpenAnswers, story_opened, opened}
 use Rattle.keel_machine.specs.States.{State, Footing, Known, Unknown, Phase, Shut, Booting, Open, Leaving, Nothing, Crashed, Left, Story, is_open, is_left, new_story, with_device}
-use Rattle.keel_machine.specs.Turns.{Event, Opening, Admitting, Writing, Resuming, Flushing, TakingOutcome, Getting, Scanning, Listing, TellingError, TellingLevels, Arranging, Crashing, Finishing, Answers, after}
+use Rattle.keel_machine.specs.Turns.{Event, Opening, Admitting, Writing, Resuming, Flushing, TakingOutcome, Getting, Scanning, Listing, TellingError, TellingLevels, Arranging, Crashing, Starting, Finishing, Answers, after}
 use Rattle.keel_machine.specs.Telling.{ArrangeAnswers}
 use Rattle.keel_machine.specs.Reads.{IsReadFault, GetAnswers, ScanAnswers}
 use Rattle.keel_machine.specs.declared.answers.Got.{Got}
@@ -36,6 +36,7 @@ use Rattle.keel_recovery.proofs.Crashing.{crash_keeps}
 use Rattle.keel_recovery.proofs.FlushKeeping.{flush_keeps}
 use Rattle.keel_recovery.proofs.Resting.{first_stands}
 use Rattle.keel_recovery.proofs.ResumeTurns.{resume_keeps}
+use Rattle.keel_recovery.proofs.StartTurns.{start_keeps}
 use Rattle.keel_recovery.proofs.WriteTurns.{write_keeps, admit_keeps}
 
 -- ---- an opening
@@ -107,6 +108,7 @@ opens_by boots Known (Some told) s options found device footing is shut a h =
       one_to_one = b.rest.sound.one_to_one;
       cuts = λ file above. ap (has_waiting_cut file) b.rest.settled.none_waits;
       kept = same_boot told.state (opened options found s) device [] kept;
+      none_waits = refl;
     }
 
 open_keeps : OpeningBoots → (s : State) (options : Options) (found : Found) (device : Seen) → is_open s.mode.phase ≡ false → OpenAnswers s (Ok found) device → IsCovered s → IsCovered (with_device device (opened options found s))
@@ -166,6 +168,7 @@ answer_keeps opens boots s (TellingError failure) device may a h = as_it_is s de
 answer_keeps opens boots s (TellingLevels view) device may a h = as_it_is s device (ap (λ (d : Seen). d.told) a.1) h
 answer_keeps opens boots s (Arranging rule answer) device may a h = arranged_keeps s rule answer device a h
 answer_keeps opens boots s (Crashing pick kept) device may a h = crash_keeps s pick kept device a h
+answer_keeps opens boots s (Starting answer) device may a h = start_keeps s answer device a.0 (ap (λ (d : Seen). d.told) a.1) h
 answer_keeps opens boots s Finishing device may a h = absurd may
 
 pub turn_keeps : OpeningBoots → BootCallKeeps → TurnKeeps

@@ -1,8 +1,6 @@
 -- An opening of a device at rest leaves a store that boots.
-use Rattle.std.proofs.Common.{◌≡◌, ℕ, true, false, if◌then◌else◌, List, [], ◌∷◌, length, Option, Some, None, option_map, Ok, refl, sym, ap, subst, ◌∙◌, arith}
-use Rattle.std.specs.Prelude.{nat_le}
+use Rattle.std.proofs.Common.{◌≡◌, ℕ, List, [], length, Option, Some, None, option_map, Ok, refl, sym, ap, subst, ◌∙◌, arith}
 use Rattle.std.specs.List.{AllByRecursion}
-use Rattle.std.proofs.lemmas.Bool.{leb-true}
 use Rattle.keel_base.specs.declared.file_name.FileName.TheVariants.{Current}
 use Rattle.keel_base.specs.declared.op.Op.{Op}
 use Rattle.keel_base.specs.Points.{Point}
@@ -10,35 +8,26 @@ use Rattle.keel_directory.specs.Reading.{Reading, StoreRead, new, held, refused,
 use Rattle.keel_directory.specs.Sound.{IsSoundReading}
 use Rattle.keel_directory.specs.TableFiles.{TableFile, Opens}
 use Rattle.keel_directory.proofs.OneReading.{reading_one}
-use Rattle.keel_disk.specs.declared.state.Operation.{Operation}
-use Rattle.keel_disk.specs.Directory.{Named, find, operated_all}
+use Rattle.keel_disk.specs.Directory.{Named, find}
 use Rattle.keel_disk.specs.Plain.{image_read}
-use Rattle.keel_disk.specs.Sound.{AreOwn, IsAtRest}
+use Rattle.keel_disk.specs.Sound.{IsAtRest}
 use Rattle.keel_disk.specs.State.{State as Disk, file_at, directory_read}
+use Rattle.keel_disk.specs.Steady.{file_behind}
 use Rattle.keel_disk.specs.Told.{Told, TellsListing}
 use Rattle.keel_disk.proofs.Imaging.{read_found}
-use Rattle.keel_disk.proofs.Operating.{is_below}
 use Rattle.keel_machine.specs.Opening.{Found, IsFoundIn, IsFoundBy, continues, opened, ops_replayed, replayed_segments, tables_in}
 use Rattle.keel_machine.specs.Resuming.{batches_in}
 use Rattle.keel_machine.specs.States.{Story, entries_in, point_of}
 use Rattle.keel_open.specs.Stores.{IsReadBy, StoreTells, replay_in}
-use Rattle.keel_recovery.specs.BootCalls.{BootFacts, IsUnmoved}
-use Rattle.keel_recovery.specs.Booting.{below}
+use Rattle.keel_recovery.specs.BootCalls.{BootFacts}
 use Rattle.keel_recovery.specs.Machine.{OpeningBoots}
+use Rattle.keel_recovery.proofs.BootNames.{behind_none}
 use Rattle.keel_recovery.proofs.BootOpened.{just_opened, levels_open}
 use Rattle.keel_recovery.proofs.Found.{held_gives, none_held, same_held, has_map}
 use Rattle.keel_recovery.proofs.Limits.{ImageSmall}
 use Rattle.keel_recovery.proofs.Machine.{directory_at_rest}
 use Rattle.keel_recovery.proofs.Opening.{small_image, all_drawn, point_is, held_facts, new_facts}
 use Rattle.keel_version.specs.Tables.{AreLevels, IsWithin}
-
-all_below : (total : ℕ) (d : Named ℕ) → AreOwn total d → below total d ≡ d
-all_below total [] own = refl
-all_below total (entry ∷ rest) own =
-    elim (nat_le total entry.1) as (λ b. nat_le total entry.1 ≡ b → (if b then below total rest else entry ∷ below total rest) ≡ entry ∷ rest) [
-      | true ↦ λ newer. absurd (omega (arith, own.0.exists, leb-true total entry.1 newer))
-      | false ↦ λ older. ap (λ d. entry ∷ d) (all_below total rest own.1)
-    ] refl
 
 -- ---- what was found
 
@@ -99,23 +88,19 @@ opening_boots s options found device told is a rest after stands =
     record {
       bound = length state.files;
       booting = just_opened state rest found.levels story found.store.next_file stands opens drawn;
-      after = after;
+      old = state;
+      floor_within = omega (arith, after.all_stay);
       numbered = a.finds.next.positive;
-      bare = λ unmoved none. no_batches (ops_replayed found.store.batches.items) found.store.logs.items (facts.bare (no_current state rest none));
+      bare = λ count none. no_batches (ops_replayed found.store.batches.items) found.store.logs.items (facts.bare (no_current state rest count none));
       facts = facts.facts;
-      unbegun = λ failures runs. never_moved state rest;
       runs = tt;
       none_active = refl;
-      none_waits = refl;
+      waits = tt;
       no_group = refl;
       no_flush = refl;
     }
   where
-    no_current : (state : Disk) → IsAtRest state → find Current (below (length state.files) state.firm) ≡ None → find Current (image_read state) ≡ None
-    no_current state rest none =
-        let firm : find Current state.firm ≡ None = subst (λ d. find Current d ≡ None) (all_below (length state.files) state.firm (rest.sound.one_to_one 0)) none in
-        let here : find Current (directory_read state) ≡ None = subst (λ (ops : List Operation). find Current (operated_all ops state.firm) ≡ None) (sym rest.settled.none_waits) firm in
+    no_current : (state : Disk) → IsAtRest state → (count : ℕ) → file_behind count Current state ≡ None → find Current (image_read state) ≡ None
+    no_current state rest count none =
+        let here : find Current (directory_read state) ≡ None = sym (behind_none count Current state rest.settled.none_waits) ∙ none in
         read_found state.files Current (directory_read state) ∙ ap (option_map (λ n. (file_at n state.files).read)) here
-
-    never_moved : (state : Disk) → IsAtRest state → IsUnmoved (length state.files) state
-    never_moved state rest = λ count current named newer. omega (arith, newer, is_below (length state.files) Current current _ (rest.sound.one_to_one count) named)

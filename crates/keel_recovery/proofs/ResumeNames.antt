@@ -1,5 +1,5 @@
 -- The names that a boot gives are names of the store.
-use Rattle.std.proofs.Common.{◌≡◌, ℕ, ◌^◌, ◌<◌, Bool, true, false, List, [], ◌∷◌, ◌++◌, length, map, Option, Some, None, unwrap_or, option_map, refl, sym, ap, subst, ◌∙◌, arith, ⊎_elim}
+use Rattle.std.proofs.Common.{◌≡◌, ℕ, ◌^◌, ◌<◌, Bool, true, false, List, [], ◌∷◌, ◌++◌, length, map, Option, Some, unwrap_or, option_map, refl, sym, ap, subst, ◌∙◌, arith, ⊎_elim}
 use Rattle.std.specs.Prelude.{◌&&◌, nat_le}
 use Rattle.std.proofs.lemmas.Bool.{leb-false}
 use Rattle.keel_base.specs.declared.failure.Counter.TheVariants.{FileNumber}
@@ -10,15 +10,14 @@ use Rattle.keel_disk.specs.Sound.{IsOneToOne}
 use Rattle.keel_disk.proofs.Staying.{GivesNames}
 use Rattle.keel_disk.proofs.Steadily.{read_own}
 use Rattle.keel_machine.specs.declared.steps.ResumeStep.TheVariants as step
-use Rattle.keel_machine.specs.Admission.{last_seq}
-use Rattle.keel_machine.specs.Resuming.{Makes, cancelled, rests_of, resume_ready, is_file_spent, acts_of, draws_next, started_or}
-use Rattle.keel_machine.specs.States.{State, Resumption, entries_in}
+use Rattle.keel_machine.specs.Resuming.{Makes, cancelled, rests_of, resume_ready, is_file_spent, acts_of, draws_next}
+use Rattle.keel_machine.specs.States.{State, Resumption}
 use Rattle.keel_machine.specs.Tests.{first_some, when, differing}
 use Rattle.keel_machine.proofs.FirstTests.{none_when, none_of}
 use Rattle.keel_manifest.specs.declared.roll.RollCall.{RollCall}
 use Rattle.keel_manifest.specs.declared.roll.RollCall.TheVariants as rolls
 use Rattle.keel_draft.specs.Drafts.{Draft}
-use Rattle.keel_resume.specs.Plans.{Act, MakeTable, AddPiece, SyncTable, MakeLog, SyncLogName, Rolls, Job, job_of, left_of, plan_of, draws, change_of}
+use Rattle.keel_resume.specs.Plans.{Act, MakeTable, AddPiece, SyncTable, MakeLog, SyncLogName, Rolls, Job, left_of, plan_of, draws, change_of}
 use Rattle.keel_recovery.specs.BootCalls.{BootKept, HasMadeSo, RunsSo, AtTables, InTable, AtLogName, AtRoll, IsMade, RollMade}
 use Rattle.keel_recovery.proofs.ResumeCalls.{files_ready}
 use Rattle.keel_recovery.proofs.Stands.{own_name}
@@ -74,35 +73,21 @@ temp_named bound s job state later one has next =
     at_roll : AtRoll bound job s.numbers.next_file state → IsFileNumber (unwrap_or job.progress.manifest 0)
     at_roll h = by_calls s.numbers.next_file h.rolls (sym h.left_is ∙ next) h.made
 
--- a boot that has only begun makes a table or a log first
-begun_first : (drafts : List Draft) (later : List Act) → plan_of drafts ≡ Rolls rolls.MakeTemporary ∷ later → ⊥
-begun_first [] later e = cc
-begun_first (draft ∷ drafts) later e = cc
-
-temp_of : (s : State) (drafts : List Draft) (o : Option Resumption) (running : Resumption) (later : List Act) (bound : ℕ) (state : Disk) → o ≡ s.jobs.resume.running → IsOneToOne state → RunsSo bound s o state
-    → (started_or o drafts s).jobs.resume.running ≡ Some running → left_of running.job ≡ Rolls rolls.MakeTemporary ∷ later → IsFileNumber (unwrap_or running.job.progress.manifest 0)
-temp_of s drafts None running later bound state at one runs is next =
-    let same : record { steps = 0; job = job_of (entries_in s.levels) (last_seq s) drafts } ≡ running = cc in
-    absurd (begun_first drafts later (ap (λ (r : Resumption). left_of r.job) same ∙ next))
-temp_of s drafts (Some running) other later bound state at one runs is next =
-    let same : running ≡ other = let e = at ∙ is in cc in
-    subst (λ (r : Resumption). IsFileNumber (unwrap_or r.job.progress.manifest 0)) same (temp_named bound s running.job state later one runs (ap (λ (r : Resumption). left_of r.job) same ∙ next))
-
-pub gives_names : (s : State) (drafts : List Draft) (held : Option ℕ) (running : Resumption) (act : Act) (later : List Act) (state : Disk) → Makes s drafts held running act later → BootKept s state → IsOneToOne state
+pub gives_names : (s : State) (drafts : List Draft) (held : Option ℕ) (running : Resumption) (act : Act) (later : List Act) (state : Disk) → Makes s drafts held running act later → BootKept (resume_ready drafts s) state → IsOneToOne state
     → GivesNames (change_of running.job s.numbers.next_file act)
 gives_names s drafts held running MakeTable later state makes kept one =
-    record { least = kept.numbered; most = omega (arith, file_left s drafts held running MakeTable later makes refl) }
+    record { least = omega (arith, kept.numbered, ap (λ n. n.next_file) (files_ready s.jobs.resume.running drafts s)); most = omega (arith, file_left s drafts held running MakeTable later makes refl) }
 gives_names s drafts held running (AddPiece bytes) later state makes kept one = tt
 gives_names s drafts held running SyncTable later state makes kept one = tt
 gives_names s drafts held running MakeLog later state makes kept one =
-    record { least = kept.numbered; most = omega (arith, file_left s drafts held running MakeLog later makes refl) }
+    record { least = omega (arith, kept.numbered, ap (λ n. n.next_file) (files_ready s.jobs.resume.running drafts s)); most = omega (arith, file_left s drafts held running MakeLog later makes refl) }
 gives_names s drafts held running SyncLogName later state makes kept one = tt
 gives_names s drafts held running (Rolls rolls.MakeManifest) later state makes kept one =
-    record { least = kept.numbered; most = omega (arith, file_left s drafts held running (Rolls rolls.MakeManifest) later makes refl) }
+    record { least = omega (arith, kept.numbered, ap (λ n. n.next_file) (files_ready s.jobs.resume.running drafts s)); most = omega (arith, file_left s drafts held running (Rolls rolls.MakeManifest) later makes refl) }
 gives_names s drafts held running (Rolls rolls.AppendEdit) later state makes kept one = tt
 gives_names s drafts held running (Rolls rolls.SyncManifest) later state makes kept one = tt
 gives_names s drafts held running (Rolls rolls.MakeTemporary) later state makes kept one =
-    temp_of s drafts s.jobs.resume.running running later kept.bound state refl one kept.runs makes.running_is makes.next
+    temp_named kept.bound (resume_ready drafts s) running.job state later one (subst (λ (r : Option Resumption). RunsSo kept.bound (resume_ready drafts s) r state) makes.running_is kept.runs) makes.next
 gives_names s drafts held running (Rolls rolls.AppendName) later state makes kept one = tt
 gives_names s drafts held running (Rolls rolls.SyncTemporary) later state makes kept one = tt
 gives_names s drafts held running (Rolls rolls.Rename) later state makes kept one = tt

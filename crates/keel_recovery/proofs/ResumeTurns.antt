@@ -1,5 +1,6 @@
 -- A resume step leaves the device covered.
-use Rattle.std.proofs.Common.{◌≡◌, ℕ, ◌+◌, ◌≤◌, Bool, true, false, if◌then◌else◌, List, [], ◌∷◌, Option, Some, None, refl, sym, ap, subst, ◌∙◌, arith}
+use Rattle.std.proofs.Common.{◌≡◌, ◌⊎◌, inl, inr, ℕ, ◌+◌, ◌≤◌, Bool, true, false, if◌then◌else◌, List, [], ◌∷◌, Option, Some, None, refl, sym, ap, subst, ◌∙◌, arith}
+use Rattle.std.specs.Prelude.{is_some}
 use Rattle.keel_base.specs.declared.failure.Failure.{Failure}
 use Rattle.keel_base.specs.declared.failure.Fault.{Fault}
 use Rattle.keel_disk.specs.State.{State as Disk}
@@ -10,33 +11,91 @@ use Rattle.keel_disk.specs.Sound.{IsOneToOne}
 use Rattle.keel_disk.proofs.Staying.{GivesNames, one_stays, cuts_stay}
 use Rattle.keel_machine.specs.declared.steps.ResumeStep.{ResumeStep}
 use Rattle.keel_machine.specs.declared.steps.ResumeStep.TheVariants as step
-use Rattle.keel_flush.specs.Plans.{Job as FlushJob}
-use Rattle.keel_machine.specs.Resuming.{Makes, MadeCall, ResumeAnswers, resume_ready, resume_after, started_or, act_done, call_done, call_failed, numbered_behind}
-use Rattle.keel_machine.specs.States.{State, Phase, Shut, Booting, Open, Mode, Writing, Slot, is_open, is_left, is_booting, Resumption, Group, with_device}
+use Rattle.keel_machine.specs.Admission.{stopping}
+use Rattle.keel_machine.specs.Resuming.{AreDrafts, AreTables, Makes, MadeCall, ResumeAnswers, resume_ready, resume_after, started_or, act_done, act_failed, job_begun, taken_over, call_done, call_failed, numbered_behind}
+use Rattle.keel_machine.specs.States.{State, Phase, Shut, Booting, Open, is_open, is_left, is_booting, Resumption, with_device}
 use Rattle.keel_draft.specs.Drafts.{Draft}
-use Rattle.keel_resume.specs.Plans.{Act, change_of, draws, failure_of, moved, next_behind}
-use Rattle.keel_recovery.specs.BootCalls.{BootKept}
+use Rattle.keel_resume.specs.Plans.{Act, Job, change_of, draws, failure_of, moved, next_behind}
+use Rattle.keel_recovery.specs.BootCalls.{BootKept, RunsSo}
 use Rattle.keel_recovery.specs.BootTurns.{BootCallKeeps, GoesOn, IsCleared}
-use Rattle.keel_recovery.specs.Machine.{IsBootingStore, KeptBy, IsCovered}
+use Rattle.keel_recovery.specs.Machine.{IsCalm, IsKept, KeptBy, IsCovered}
+use Rattle.keel_recovery.specs.Standing.{Stands}
+use Rattle.keel_recovery.proofs.BootTaken.{begins_anew, job_begins}
 use Rattle.keel_recovery.proofs.Ordering.{went_well, went_wrong}
 use Rattle.keel_recovery.proofs.Clearing.{clear_kept}
 use Rattle.keel_recovery.proofs.Covered.{covered_by, open_covered, as_it_is, called_by, same_boot}
-use Rattle.keel_recovery.proofs.ResumeCalls.{phase_ready, footing_ready, files_ready, starts_booting, done_is, failed_is}
+use Rattle.keel_recovery.proofs.ResumeCalls.{asked_for, footing_ready, done_is, failed_is}
 use Rattle.keel_recovery.proofs.ResumeNames.{gives_names}
+use Rattle.keel_recovery.proofs.Kept.{boot_stands, kept_stands}
+use Rattle.keel_recovery.proofs.StillStopped.{still_stopped}
+use Rattle.keel_recovery.proofs.TakenOver.{takes_over}
+
+some_none : {A P : Type 0} (x : A) → Some x ≡ None → P
+some_none x e = cc
 
 -- ---- the state in which a call is made
 
-writing_ready : (running : Option Resumption) (drafts : List Draft) (s : State) → (started_or running drafts s).writing ≡ s.writing
-writing_ready None drafts s = refl
-writing_ready (Some running) drafts s = refl
+-- where a job makes its calls: while the store boots and takes no batches, or while writes are stopped
+abbrev pub IsPlace : State → Type 0
+IsPlace s = ((s.mode.phase ≡ Booting) × (s.writing.waiting ≡ [])) ⊎ ((s.mode.phase ≡ Open) × (is_some (stopping s) ≡ true))
 
-write_ready : (running : Option Resumption) (drafts : List Draft) (s : State) → (started_or running drafts s).jobs.write ≡ s.jobs.write
-write_ready None drafts s = refl
-write_ready (Some running) drafts s = refl
+-- what is kept as it makes one
+pub record InJob (s : State) (drafts : List Draft) (state : Disk) : Type 0 where
+  pub one_to_one : IsOneToOne state
+  pub cuts : CutsExist state
+  pub kept : BootKept (resume_ready drafts s) state
+  pub stands : Stands state s.story
+  pub place : IsPlace s
 
-flushes_ready : (running : Option Resumption) (drafts : List Draft) (s : State) → (started_or running drafts s).jobs.flush ≡ s.jobs.flush
-flushes_ready None drafts s = refl
-flushes_ready (Some running) drafts s = refl
+-- the job that runs, or the one that begins
+ready_kept : (s : State) (drafts : List Draft) (state : Disk) (running : Option Resumption) → running ≡ s.jobs.resume.running → AreDrafts running s drafts → IsOneToOne state → BootKept s state → BootKept (started_or running drafts s) state
+ready_kept s drafts state None is are one kept = begins_anew s state drafts one kept (sym is) are
+ready_kept s drafts state (Some running) is are one kept = kept
+
+-- one that begins in a store that writes
+begun_kept : (s : State) (drafts : List Draft) (state : Disk) (running : Option Resumption) → running ≡ None → BootKept (job_begun drafts (taken_over s)) state → BootKept (started_or running drafts s) state
+begun_kept s drafts state None idle kept = kept
+begun_kept s drafts state (Some running) idle kept = some_none running idle
+
+boot_in_job : (s : State) (drafts : List Draft) (state : Disk) → AreDrafts s.jobs.resume.running s drafts → IsOneToOne state → CutsExist state → BootKept s state → IsPlace s → InJob s drafts state
+boot_in_job s drafts state are one cuts kept place = record {
+  one_to_one = one;
+  cuts = cuts;
+  kept = ready_kept s drafts state s.jobs.resume.running refl are one kept;
+  stands = boot_stands state s one kept;
+  place = place;
+}
+
+tables_none : (s : State) (drafts : List Draft) (running : Option Resumption) → running ≡ None → AreDrafts running s drafts → AreTables (taken_over s) drafts
+tables_none s drafts None idle are = are
+tables_none s drafts (Some running) idle are = some_none running idle
+
+taken_kept : (s : State) (drafts : List Draft) (state : Disk) → IsKept state s → IsCalm s → AreTables (taken_over s) drafts → BootKept (job_begun drafts (taken_over s)) state
+taken_kept s drafts state h calm tables =
+    let taken = takes_over s state drafts h calm tables in
+    job_begins (taken_over s) state drafts taken.0 taken.1 tables
+
+written_in_job : (s : State) (drafts : List Draft) (state : Disk) → AreDrafts s.jobs.resume.running s drafts → IsKept state s → IsCalm s → s.mode.phase ≡ Open → InJob s drafts state
+written_in_job s drafts state are h calm phase = record {
+  one_to_one = h.one_to_one;
+  cuts = h.cuts;
+  kept = begun_kept s drafts state s.jobs.resume.running h.none_boots (taken_kept s drafts state h calm (tables_none s drafts s.jobs.resume.running h.none_boots are));
+  stands = kept_stands state s h;
+  place = inr (phase, calm.stopped);
+}
+
+never_open : false ≡ true → ⊥
+never_open e = cc
+
+pub in_job : (s : State) (drafts : List Draft) (held : Option ℕ) (running : Resumption) (act : Act) (later : List Act) → Makes s drafts held running act later
+    → (phase : Phase) (left : Bool) (state : Disk) → phase ≡ s.mode.phase → is_open phase ≡ true → KeptBy phase left state s → InJob s drafts state
+in_job s drafts held running act later makes Shut left state is opens h = absurd (never_open opens)
+in_job s drafts held running act later makes Booting left state is opens h =
+    boot_in_job s drafts state makes.drafts_are h.one_to_one h.cuts h.kept (inl (sym is, h.none_waits))
+in_job s drafts held running act later makes Open left state is opens (inr h) =
+    boot_in_job s drafts state makes.drafts_are h.one_to_one h.cuts h.kept (inr (sym is, h.stopped))
+in_job s drafts held running act later makes Open left state is opens (inl h) =
+    written_in_job s drafts state makes.drafts_are h (h.calm (asked_for s drafts held makes.no_rest h.none_boots (ap is_booting (sym is)))) (sym is)
 
 next_more : (act : Act) (next : ℕ) → next ≤ next_behind act next
 next_more act next = by (draws act)
@@ -45,20 +104,35 @@ next_more act next = by (draws act)
     by true = omega arith
     by false = omega arith
 
--- a store that boots, where the state is told of another device
-booting_kept : (n : State) (device : Seen) (state : Disk) → n.mode.phase ≡ Booting → IsOneToOne state → CutsExist state → BootKept n state → KeptBy n.mode.phase (is_left n.mode.left) state (with_device device n)
-booting_kept n device state phase one cuts kept =
-    subst (λ (p : Phase). KeptBy p (is_left n.mode.left) state (with_device device n)) (sym phase) (record { one_to_one = one; cuts = cuts; kept = same_boot state n device n.writing.outcomes kept })
+-- behind a call the store is where it was
+stays_there : (n : State) (device : Seen) (state : Disk) → IsPlace n → IsOneToOne state → CutsExist state → BootKept n state → KeptBy n.mode.phase (is_left n.mode.left) state (with_device device n)
+stays_there n device state (inl (phase, none)) one cuts kept =
+    subst (λ (p : Phase). KeptBy p (is_left n.mode.left) state (with_device device n)) (sym phase) (record { one_to_one = one; cuts = cuts; kept = same_boot state n device n.writing.outcomes kept; none_waits = none })
+stays_there n device state (inr (phase, stopped)) one cuts kept =
+    subst (λ (p : Phase). KeptBy p (is_left n.mode.left) state (with_device device n)) (sym phase) (inr (record { one_to_one = one; cuts = cuts; kept = same_boot state n device n.writing.outcomes kept; stopped = stopped }))
+
+place_ready : (running : Option Resumption) (drafts : List Draft) (s : State) → IsPlace s → IsPlace (started_or running drafts s)
+place_ready None drafts s (inl (phase, none)) = inl (phase, none)
+place_ready None drafts s (inr (phase, stopped)) = inr (phase, stopped)
+place_ready (Some running) drafts s place = place
+
+place_on : (act : Act) (running : Resumption) (next : Act) (later : List Act) (at : State) → IsPlace at → IsPlace (act_done act running (next ∷ later) at)
+place_on act running next later at (inl (phase, none)) = inl (phase, none)
+place_on act running next later at (inr (phase, stopped)) = inr (phase, stopped)
+
+place_over : (act : Act) (job : Job) (failure : Failure) (at : State) → IsPlace at → IsPlace (act_failed act job failure at)
+place_over act job failure at (inl (phase, none)) = inl (phase, none)
+place_over act job failure at (inr (phase, stopped)) = inr (phase, still_stopped at failure stopped)
 
 -- what a call that was answered Ok leaves, by the calls that are left
-done_kept : (act : Act) (running : Resumption) (later : List Act) (n at : State) (device : Seen) (state : Disk) → n ≡ act_done act running later at → at.mode.phase ≡ Booting → IsOneToOne state → CutsExist state
-    → 1 ≤ at.numbers.next_file → at.writing.waiting ≡ [] → at.jobs.write.running ≡ None → at.jobs.flush.running ≡ None → GoesOn later n state → KeptBy n.mode.phase (is_left n.mode.left) state (with_device device n)
-done_kept act running [] n at device state is booting one cuts numbered none_waits none_runs none_flush h =
+done_kept : (act : Act) (running : Resumption) (later : List Act) (n at : State) (device : Seen) (state before : Disk) → n ≡ act_done act running later at → IsPlace at → IsOneToOne state → CutsExist state
+    → (kept : BootKept at before) → at.jobs.started ≡ false → GoesOn later n state → KeptBy n.mode.phase (is_left n.mode.left) state (with_device device n)
+done_kept act running [] n at device state before is place one cuts kept unstarted h =
     subst (λ (m : State). KeptBy m.mode.phase (is_left m.mode.left) state (with_device device m)) (sym is)
-    (clear_kept (moved at.numbers.next_file act running.job) (numbered_behind act running.job at) device state one cuts (omega (arith, numbered, next_more act at.numbers.next_file)) none_waits none_runs none_flush
-    (subst (λ (m : State). IsCleared m state) is h))
-done_kept act running (next ∷ later) n at device state is booting one cuts numbered none_waits none_runs none_flush h =
-    booting_kept n device state (ap (λ (m : State). m.mode.phase) is ∙ booting) one cuts h
+    (inl (clear_kept (moved at.numbers.next_file act running.job) (numbered_behind act running.job at) device state one cuts (omega (arith, kept.numbered, next_more act at.numbers.next_file)) kept.waits unstarted kept.no_group kept.no_flush
+    (subst (λ (m : State). IsCleared m state) is h)))
+done_kept act running (next ∷ later) n at device state before is place one cuts kept unstarted h =
+    stays_there n device state (subst IsPlace (sym is) (place_on act running next later at place)) one cuts h
 
 -- ---- a call
 
@@ -66,43 +140,30 @@ module _ (boots : BootCallKeeps) (s : State) (drafts : List Draft) (held : Optio
   abbrev at : State
   at = resume_ready drafts s
 
-  booting_at : s.mode.phase ≡ Booting → at.mode.phase ≡ Booting
-  booting_at booting = ap (λ (m : Mode). m.phase) (phase_ready s.jobs.resume.running drafts s) ∙ booting
+  unstarted : (state : Disk) → BootKept at state → at.jobs.started ≡ false
+  unstarted state kept = (subst (λ (r : Option Resumption). RunsSo kept.bound at r state) makes.running_is kept.runs).unstarted
 
-  pub names_given : (before : Disk) → IsBootingStore before s → GivesNames (change_of running.job s.numbers.next_file act)
+  pub names_given : (before : Disk) → InJob s drafts before → GivesNames (change_of running.job s.numbers.next_file act)
   names_given before h = gives_names s drafts held running act later before makes h.kept h.one_to_one
 
-  done_after : (before behind : Disk) → s.mode.phase ≡ Booting → IsBootingStore before s → DiskStep before (change_of running.job s.numbers.next_file act) went_well behind
+  done_after : (before behind : Disk) → InJob s drafts before → DiskStep before (change_of running.job s.numbers.next_file act) went_well behind
       → KeptBy (call_done drafts s).mode.phase (is_left (call_done drafts s).mode.left) behind (with_device device (call_done drafts s))
-  done_after before behind booting h step =
+  done_after before behind h step =
       let change = change_of running.job s.numbers.next_file act in
-      done_kept act running later (call_done drafts s) at device behind (done_is s drafts held running act later makes) (booting_at booting)
+      done_kept act running later (call_done drafts s) at device behind before (done_is s drafts held running act later makes) (place_ready s.jobs.resume.running drafts s h.place)
       (one_stays change went_well before behind (names_given before h) h.one_to_one step) (cuts_stay change went_well before behind h.one_to_one h.cuts step)
-      (omega (arith, h.kept.numbered, ap (λ n. n.next_file) (files_ready s.jobs.resume.running drafts s)))
-      (ap (λ (w : Writing). w.waiting) (writing_ready s.jobs.resume.running drafts s) ∙ h.kept.none_waits)
-      (ap (λ (w : Slot Group). w.running) (write_ready s.jobs.resume.running drafts s) ∙ h.kept.no_group)
-      (ap (λ (w : Slot FlushJob). w.running) (flushes_ready s.jobs.resume.running drafts s) ∙ h.kept.no_flush)
+      h.kept (unstarted before h.kept)
       (boots s drafts held running act later None before behind h.one_to_one h.cuts h.kept makes step)
 
-  failed_after : (fault : Fault) (before behind : Disk) → s.mode.phase ≡ Booting → IsBootingStore before s → DiskStep before (change_of running.job s.numbers.next_file act) (went_wrong fault) behind
+  failed_after : (fault : Fault) (before behind : Disk) → InJob s drafts before → DiskStep before (change_of running.job s.numbers.next_file act) (went_wrong fault) behind
       → KeptBy (call_failed drafts (failure_of act fault) s).mode.phase (is_left (call_failed drafts (failure_of act fault) s).mode.left) behind (with_device device (call_failed drafts (failure_of act fault) s))
-  failed_after fault before behind booting h step =
+  failed_after fault before behind h step =
       let change = change_of running.job s.numbers.next_file act in
       let n = call_failed drafts (failure_of act fault) s in
-      booting_kept n device behind (ap (λ (m : State). m.mode.phase) (failed_is s drafts held running act later (failure_of act fault) makes) ∙ booting_at booting)
+      stays_there n device behind
+      (subst IsPlace (sym (failed_is s drafts held running act later (failure_of act fault) makes)) (place_over act running.job (failure_of act fault) at (place_ready s.jobs.resume.running drafts s h.place)))
       (one_stays change (went_wrong fault) before behind (names_given before h) h.one_to_one step) (cuts_stay change (went_wrong fault) before behind h.one_to_one h.cuts step)
       (boots s drafts held running act later (Some fault) before behind h.one_to_one h.cuts h.kept makes step)
-
-  -- a boot makes calls while the store boots alone
-  pub in_boot : {P : Type 0} (phase : Phase) (left : Bool) (state : Disk) → phase ≡ s.mode.phase → is_open phase ≡ true → KeptBy phase left state s → (s.mode.phase ≡ Booting → IsBootingStore state s → P) → P
-  in_boot Shut left state is opens h goes = cc
-  in_boot Booting left state is opens h goes = goes (sym is) h
-  in_boot Open left state is opens h goes =
-      let booting : is_booting Open ≡ true = ap is_booting is ∙ starts_booting s drafts held makes.no_rest h.none_boots in
-      absurd (never booting)
-    where
-      never : false ≡ true → ⊥
-      never e = cc
 
 pub footing_done : (s : State) (drafts : List Draft) (held : Option ℕ) (running : Resumption) (act : Act) (later : List Act) → Makes s drafts held running act later → (call_done drafts s).footing ≡ s.footing
 footing_done s drafts held running act later makes =
@@ -120,8 +181,8 @@ resume_keeps boots s drafts held answer device is a h = by answer a
     done running act later made =
         open_covered s (with_device device (call_done drafts s)) (footing_done s drafts held running act later made.makes)
         (called_by s.footing s.device.told device.told (change_of running.job s.numbers.next_file act) None s (with_device device (call_done drafts s))
-        (λ before behind kept step. in_boot boots s drafts held running act later made.makes device s.mode.phase (is_left s.mode.left) before refl is kept
-        (λ booting store. done_after boots s drafts held running act later made.makes device before behind booting store step))
+        (λ before behind kept step. done_after boots s drafts held running act later made.makes device before behind
+        (in_job s drafts held running act later made.makes s.mode.phase (is_left s.mode.left) before refl is kept) step)
         made.calls.step (covered_by s h))
 
     failed : (running : Resumption) (act : Act) (later : List Act) (fault : Fault) → MadeCall s drafts held running act later (Some fault) device → IsCovered (with_device device (call_failed drafts (failure_of act fault) s))
@@ -129,8 +190,8 @@ resume_keeps boots s drafts held answer device is a h = by answer a
         open_covered s (with_device device (call_failed drafts (failure_of act fault) s))
         (ap (λ (m : State). m.footing) (failed_is s drafts held running act later (failure_of act fault) made.makes) ∙ footing_ready s.jobs.resume.running drafts s)
         (called_by s.footing s.device.told device.told (change_of running.job s.numbers.next_file act) (Some fault) s (with_device device (call_failed drafts (failure_of act fault) s))
-        (λ before behind kept step. in_boot boots s drafts held running act later made.makes device s.mode.phase (is_left s.mode.left) before refl is kept
-        (λ booting store. failed_after boots s drafts held running act later made.makes device fault before behind booting store step))
+        (λ before behind kept step. failed_after boots s drafts held running act later made.makes device fault before behind
+        (in_job s drafts held running act later made.makes s.mode.phase (is_left s.mode.left) before refl is kept) step)
         made.calls.step (covered_by s h))
 
     by : (answer : ResumeStep) → ResumeAnswers s drafts held answer device → IsCovered (with_device device (resume_after s drafts answer))

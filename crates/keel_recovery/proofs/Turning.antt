@@ -1,5 +1,5 @@
 -- What a write step and a queued batch do to the order of batches, where no call is made.
-use Rattle.std.specs.Prelude.{◌==◌, nat_le, ◌&&◌}
+use Rattle.std.specs.Prelude.{◌==◌, nat_le, ◌&&◌, is_some}
 use Rattle.std.proofs.Common.{◌≡◌, inl, inr, ℕ, zero, suc, ◌+◌, ◌^◌, ◌<◌, ◌≤◌, Bool, true, false, List, [], ◌∷◌, ◌++◌, length, take, drop, Option, Some, None, option_map, refl, sym, ap, subst, ◌∙◌, arith}
 use Rattle.std.proofs.lemmas.Bool.{leb-false}
 use Rattle.std.proofs.lemmas.List.{append_assoc, append-nil, map-append}
@@ -24,14 +24,15 @@ use Rattle.keel_machine.specs.Tests.{first_some, differing}
 use Rattle.keel_machine.specs.Writing.{group_plan, nothing_made, formed, started, started_or, ready, turned_away, is_nobody_waiting, is_file_spent, draws, rests_before_group, rests_of, cancelled, write_rest}
 use Rattle.keel_machine.proofs.FirstTests.{none_some, none_first, none_later, none_mapped, none_when, none_of}
 use Rattle.keel_recovery.specs.Calls.{CanGrow}
-use Rattle.keel_recovery.specs.Machine.{ops_waiting, IsAt, AreOnTheirWay, WhileItGoes, HoldsBy, IsStored}
+use Rattle.keel_recovery.specs.Machine.{IsAt, WhileItGoes, HoldsBy, IsStored}
+use Rattle.keel_recovery.specs.Waiting.{AreOnTheirWay, ops_waiting}
 use Rattle.keel_recovery.proofs.Numbering.{batches_append, front_batches, counted_append}
 use Rattle.keel_recovery.proofs.Sizes.{IsWithinLimits}
 
 -- ---- a group is formed
 
 -- so many of those that wait, and the rest, are all of them
-ops_split : (n : ℕ) (waiting : List Ticketed) → ops_waiting waiting ≡ ops_of (take n (batches_of waiting)) ++ ops_waiting (drop n waiting)
+pub ops_split : (n : ℕ) (waiting : List Ticketed) → ops_waiting waiting ≡ ops_of (take n (batches_of waiting)) ++ ops_waiting (drop n waiting)
 ops_split zero waiting = refl
 ops_split (suc n) [] = refl
 ops_split (suc n) (first ∷ rest) = ap (λ (l : List (List Op)). first.batch.ops ∷ l) (ops_split n rest)
@@ -77,7 +78,7 @@ started_keeps state (first ∷ rest) s none h same =
     formed_keeps s.segments.active.log state s.levels s.story s.segments.immutable s.segments.active.batches queue (drop (next_size queue) queue) (next_batches queue) (is_full s) (wants_sync (next_batches queue)) (stopping s)
     (take (next_size queue) (tickets_of queue)) s.numbers.next_file s.numbers.in_tables s.jobs.flush.running s.numbers.manifest none (ops_split (next_size queue) queue) h
 
-none_stands : (s : State) → first_some (rests_before_group s) ≡ None → stopping s ≡ None
+pub none_stands : (s : State) → first_some (rests_before_group s) ≡ None → stopping s ≡ None
 none_stands s h = none_mapped (turned_away s) (stopping s) (none_of (rests_before_group s) h).1.0
 
 running_keeps : (state : Disk) (running : Option Group) (s : State) → first_some (rests_of s running) ≡ None
@@ -86,7 +87,7 @@ running_keeps : (state : Disk) (running : Option Group) (s : State) → first_so
 running_keeps state None s none h same = started_keeps state s.writing.waiting s (none_stands s none) h same
 running_keeps state (Some group) s none h same = same
 
-in_group : (s : State) (held : Option ℕ) → write_rest s held ≡ None → first_some (rests_of s s.jobs.write.running) ≡ None
+pub in_group : (s : State) (held : Option ℕ) → write_rest s held ≡ None → first_some (rests_of s s.jobs.write.running) ≡ None
 in_group s held none =
     let here = first_some (rests_of s s.jobs.write.running) in
     let number : Option WriteStep = option_map (cancelled s) (differing held s.jobs.write.number) in
@@ -94,6 +95,15 @@ in_group s held none =
 
 pub ready_keeps : (state : Disk) (s : State) (held : Option ℕ) → write_rest s held ≡ None → IsStored state s → IsStored state (ready s)
 ready_keeps state s held none h = running_keeps state s.jobs.write.running s (in_group s held none) h h
+
+-- without a group in flight no call is made while writes are stopped
+pub none_while_stopped : {P : Type 0} (s : State) (held : Option ℕ) → write_rest s held ≡ None → s.jobs.write.running ≡ None → is_some (stopping s) ≡ true → P
+none_while_stopped s held none idle stopped =
+    let rests : first_some (rests_before_group s) ≡ None = subst (λ (running : Option Group). first_some (rests_of s running) ≡ None) idle (in_group s held none) in
+    never (sym (ap (λ (o : Option Failure). is_some o) (none_stands s rests)) ∙ stopped)
+  where
+    never : {P : Type 0} → false ≡ true → P
+    never e = cc
 
 -- ---- the number of a log that is made is below the end
 
@@ -173,7 +183,7 @@ turned_keeps o state levels story immutable own waiting stops running next_file 
 
 -- a batch is queued
 
-queued_batch : (last total : ℕ) (batch : Batch) → IsWithinLimits batch → last + total + length batch.ops ≤ 2 ^ 56 → IsBatch (last + total + 1) batch.ops
+pub queued_batch : (last total : ℕ) (batch : Batch) → IsWithinLimits batch → last + total + length batch.ops ≤ 2 ^ 56 → IsBatch (last + total + 1) batch.ops
 queued_batch last total batch limits most = record {
   first = omega arith;
   some = limits.some;

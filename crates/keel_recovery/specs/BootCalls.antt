@@ -17,14 +17,13 @@ use Rattle.keel_directory.specs.Sound.{IsAsSaid, AllAgree, AreLayered}
 use Rattle.keel_directory.specs.TableFiles.{TableFile, table_rows}
 use Rattle.keel_machine.specs.Reads.{segment_rows}
 use Rattle.keel_machine.specs.Resuming.{AreTables, batches_in}
-use Rattle.keel_machine.specs.States.{State, Story, Resumption, entries_in, point_of}
+use Rattle.keel_machine.specs.States.{State, Story, Resumption, entries_in, no_batches, point_of}
 use Rattle.keel_manifest.specs.declared.roll.RollCall.{RollCall}
 use Rattle.keel_manifest.specs.declared.roll.RollCall.TheVariants.{MakeManifest, AppendEdit, SyncManifest, MakeTemporary, AppendName, SyncTemporary, Rename, SyncDirectory}
 use Rattle.keel_draft.specs.Drafts.{Draft, bytes_in, count_ops, pieces_in}
 use Rattle.keel_resume.specs.Plans.{Job, AddPiece, SyncTable, SyncLogName, Rolls, edit_of, left_of, plan_of, roll_acts}
-use Rattle.keel_recovery.specs.Booting.{IsBooting, below}
-use Rattle.keel_disk.specs.Directory.{find}
-use Rattle.keel_recovery.specs.BootLaws.{IsAfterCrash}
+use Rattle.keel_recovery.specs.Booting.{IsBooting}
+use Rattle.keel_recovery.specs.Waiting.{ops_waiting}
 
 -- ---- what the directory holds, which no call of the boot changes
 
@@ -49,7 +48,7 @@ pub record BootFacts (levels : List TableFile) (segments : List (List (List Op))
 
 -- ---- files
 
--- a file that was made since is there as read, firm in whole, with these bytes, and no call on it failed
+-- a file that was made since the job began is there as read, firm in whole, with these bytes, and no call on it failed
 pub record IsMade (bound : ℕ) (name : FileName) (bytes : List ℕ) (state : Disk) : Type 0 where
   pub file : ℕ
   pub present : IsPresent name file state
@@ -211,6 +210,7 @@ IsAtStage bound job next_file state =
 pub record HasMadeSo (bound : ℕ) (s : State) (job : Job) (state : Disk) : Type 0 where
   pub tables : AreTables s job.drafts
   pub live_is : job.live ≡ entries_in s.levels
+  pub unstarted : s.jobs.started ≡ false
   pub last_is : job.last_seq ≡ (point_of s.story).seq
   pub rising : AreRising job.progress.tables s.numbers.next_file
   pub over : AreOver job.live job.progress.tables
@@ -220,22 +220,19 @@ abbrev pub RunsSo : ℕ → State → Option Resumption → Disk → Type 0
 RunsSo bound s None state = Unit {0}
 RunsSo bound s (Some running) state = HasMadeSo bound s running.job state
 
--- where no boot runs and none has failed, none was begun: CURRENT isn't moved
-abbrev pub IsUnbegun : ℕ → State → Disk → Type 0
-IsUnbegun bound s state = s.failing.failures ≡ [] → s.jobs.resume.running ≡ None → IsUnmoved bound state
-
--- The device of a store whose boot hasn't cleared.
+-- The device of a store whose boot hasn't cleared, or that a resume took over: as it was when the job began or was last tried,
+-- and what was made since.
 pub record BootKept (s : State) (state : Disk) : Type 0 where
   pub bound : ℕ
-  pub booting : IsBooting bound s.levels s.story s.numbers.next_file state
-  pub after : IsAfterCrash s.story
+  pub old : Disk
+  pub booting : IsBooting bound old s.levels s.story s.numbers.next_file state
+  pub floor_within : s.story.floor ≤ length s.story.log
   pub numbered : 1 ≤ s.numbers.next_file
   -- a new store has no batch
-  pub bare : IsUnmoved bound state → find Current (below bound state.firm) ≡ None → s.segments.immutable ≡ []
+  pub bare : (count : ℕ) → file_behind count Current old ≡ None → s.segments.immutable ≡ []
   pub facts : BootFacts s.levels (batches_in s.segments.immutable) s.numbers.in_tables s.story
-  pub unbegun : IsUnbegun bound s state
   pub runs : RunsSo bound s s.jobs.resume.running state
-  pub none_active : s.segments.active.batches ≡ []
-  pub none_waits : s.writing.waiting ≡ []
+  pub none_active : s.segments.active ≡ no_batches
+  pub waits : AreBatches (point_of s.story).seq (ops_waiting s.writing.waiting)
   pub no_group : s.jobs.write.running ≡ None
   pub no_flush : s.jobs.flush.running ≡ None

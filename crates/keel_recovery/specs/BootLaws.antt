@@ -1,5 +1,5 @@
 -- The laws of a store whose boot hasn't cleared.
-use Rattle.std.specs.Prelude.{◌≡◌, ℕ, List, [], length}
+use Rattle.std.specs.Prelude.{◌≡◌, ℕ, ◌≤◌, List, [], length}
 use Rattle.keel_directory.specs.TableFiles.{TableFile}
 use Rattle.keel_disk.specs.Sound.{IsOneToOne}
 use Rattle.keel_disk.specs.State.{State}
@@ -15,5 +15,5 @@ pub record IsAfterCrash (story : Story) : Type 0 where
 -- its device stands for the story
 abbrev pub BootingStands : Type 0
 BootingStands =
-    (bound : ℕ) (levels : List TableFile) (story : Story) (next_file : ℕ) (state : State)
-    → IsOneToOne state → IsAfterCrash story → IsBooting bound levels story next_file state → Stands state story
+    (bound : ℕ) (old : State) (levels : List TableFile) (story : Story) (next_file : ℕ) (state : State)
+    → IsOneToOne state → story.floor ≤ length story.log → IsBooting bound old levels story next_file state → Stands state story

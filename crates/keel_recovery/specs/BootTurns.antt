@@ -6,9 +6,10 @@ use Rattle.keel_disk.specs.State.{State as Disk}
 use Rattle.keel_disk.specs.Steady.{CutsExist}
 use Rattle.keel_disk.specs.Step.{DiskStep}
 use Rattle.keel_machine.specs.Outside.{as_answer}
-use Rattle.keel_machine.specs.Resuming.{Makes, call_done, call_failed}
+use Rattle.keel_machine.specs.Resuming.{Makes, call_done, call_failed, resume_ready}
 use Rattle.keel_machine.specs.States.{State, Resumption, new_log, point_of}
 use Rattle.keel_recovery.specs.BootCalls.{BootKept}
+use Rattle.keel_recovery.specs.Booting.{NoCuts}
 use Rattle.keel_recovery.specs.Calls.{AllReach, CanGrow}
 use Rattle.keel_recovery.specs.Chains.{Chained}
 use Rattle.keel_recovery.specs.Flushes.{HasFlush}
@@ -28,6 +29,7 @@ pub record IsCleared (s : State) (state : Disk) : Type 0 where
   pub log_is : s.segments.active.log ≡ Some (new_log log)
   pub keeps : Keeps (way ∷ []) (length s.story.log) (cleared_log log s ∷ []) s.levels s.story s.numbers.next_file state
   pub grows : CanGrow [] (cleared_log log s) 0 state
+  pub uncut : NoCuts state
   pub reach : AllReach (way ∷ []) log
   pub flushes : HasFlush way s.levels s.numbers.in_tables (cleared_log log s ∷ []) None None s.numbers.next_file s.numbers.manifest state
 
@@ -40,9 +42,9 @@ abbrev pub LeavesOf : List Draft → Act → List Act → Option Fault → State
 LeavesOf drafts act later None s after = GoesOn later (call_done drafts s) after
 LeavesOf drafts act later (Some fault) s after = BootKept (call_failed drafts (failure_of act fault) s) after
 
--- Each call of a boot, answered Ok or failed, leaves it kept, or cleared.
+-- Each call of a boot or a resume that is kept as it makes the call leaves it kept, or cleared, answered Ok or failed.
 abbrev pub BootCallKeeps : Type 0
 BootCallKeeps =
     (s : State) (drafts : List Draft) (held : Option ℕ) (running : Resumption) (act : Act) (later : List Act) (failed : Option Fault) (state after : Disk)
-    → IsOneToOne state → CutsExist state → BootKept s state → Makes s drafts held running act later
+    → IsOneToOne state → CutsExist state → BootKept (resume_ready drafts s) state → Makes s drafts held running act later
     → DiskStep state (change_of running.job s.numbers.next_file act) (as_answer failed) after → LeavesOf drafts act later failed s after

@@ -3,6 +3,7 @@ pub mod Chains
 pub mod Roots
 pub mod Keeping
 pub mod Booting
+pub mod Waiting
 pub mod Laws
 pub mod BootLaws
 pub mod BootCalls

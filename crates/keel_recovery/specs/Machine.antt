@@ -1,5 +1,5 @@
 -- The states of the machine whose device stands for their story, and that every turn keeps them so.
-use Rattle.std.specs.Prelude.{◌≡◌, ◌⊎◌, ℕ, ◌-◌, ◌^◌, ◌<◌, ◌≤◌, Bool, true, false, List, [], ◌∷◌, ◌++◌, Option, Some, None, map, if◌then◌else◌, Err, Ok}
+use Rattle.std.specs.Prelude.{◌≡◌, ◌⊎◌, ℕ, ◌-◌, ◌^◌, ◌<◌, ◌≤◌, Bool, true, false, List, [], ◌∷◌, ◌++◌, Option, Some, None, is_some, if◌then◌else◌, Err, Ok}
 use Rattle.keel_base.specs.declared.failure.Failure.{Failure}
 use Rattle.keel_base.specs.declared.failure.Fault.{Fault}
 use Rattle.keel_base.specs.declared.memory.OutOfMemory.{OutOfMemory}
@@ -23,7 +23,7 @@ use Rattle.keel_disk.specs.declared.rule.Pick.{Pick}
 use Rattle.keel_disk.specs.Seen.{Seen, IsArranged}
 use Rattle.keel_flush.specs.Plans.{Job as FlushJob}
 use Rattle.keel_manifest.specs.State.{ManifestState}
-use Rattle.keel_machine.specs.Admission.{ops_of, batches_of_group, stopping}
+use Rattle.keel_machine.specs.Admission.{stopping}
 use Rattle.keel_machine.specs.Crash.{CrashAnswers, has_story}
 use Rattle.keel_base.specs.declared.options.Options.{Options}
 use Rattle.keel_machine.specs.Opening.{Found, OpenAnswers, continues, opened}
@@ -47,7 +47,9 @@ use Rattle.keel_recovery.specs.Chains.{Chained, IsWholeLog}
 use Rattle.keel_recovery.specs.Crashing.{InsideCall}
 use Rattle.keel_recovery.specs.Flushes.{HasFlush}
 use Rattle.keel_recovery.specs.Keeping.{Keeps}
+use Rattle.keel_recovery.specs.Booting.{NoCuts}
 use Rattle.keel_recovery.specs.Roots.{Way, point_at}
+use Rattle.keel_recovery.specs.Waiting.{AreOnTheirWay, ops_waiting}
 use Rattle.keel_recovery.specs.Standing.{Stands}
 
 -- what a caller may ask: a store is opened where none is open, and the other calls are those of an open one, but for
@@ -122,17 +124,6 @@ abbrev pub IsAt : Disk → Story → ℕ → Chained → Option Group → Type 0
 IsAt state story next_file own None = story.limbo ≡ []
 IsAt state story next_file own (Some group) = AtStage state story next_file own group.progress.log group.batches (left_of group)
 
-abbrev pub ops_waiting : List Ticketed → List (List Op)
-ops_waiting waiting = map (λ (member : Ticketed). member.batch.ops) waiting
-
--- the batches that are on their way: in limbo, in the group in flight, and waiting
-abbrev pub on_their_way : Story → Option Group → List Ticketed → List (List Op)
-on_their_way story running waiting = story.limbo ++ (ops_of (batches_of_group running) ++ ops_waiting waiting)
-
--- those are numbered on behind the published ones, each within its limits
-abbrev pub AreOnTheirWay : Story → Option Group → List Ticketed → Type 0
-AreOnTheirWay story running waiting = AreBatches (point_of story).seq (on_their_way story running waiting)
-
 -- that is so while a group is in flight, or writes aren't stopped
 abbrev pub WhileItGoes : Option Group → Option Failure → Type 0 → Type 0
 WhileItGoes (Some group) stops goes = goes
@@ -169,14 +160,30 @@ IsStoredIn state levels story segments waiting stops running numbers flush =
 abbrev pub IsStored : Disk → State → Type 0
 IsStored state s = IsStoredIn state s.levels s.story s.segments s.writing.waiting (stopping s) s.jobs.write.running s.numbers s.jobs.flush.running
 
+-- no group is in flight, no flush runs, and writes are stopped
+pub record IsCalm (s : State) : Type 0 where
+  pub no_group : s.jobs.write.running ≡ None
+  pub no_flush : s.jobs.flush.running ≡ None
+  pub stopped : is_some (stopping s) ≡ true
+
 -- The device of a store that writes: names and files go one to one, the next file has a number, and its logs hold the story. No
--- boot runs.
+-- resume runs, and one that was asked for finds the store calm.
 pub record IsKept (state : Disk) (s : State) : Type 0 where
   pub one_to_one : IsOneToOne state
   pub cuts : CutsExist state
+  pub uncut : NoCuts state
   pub numbered : 1 ≤ s.numbers.next_file
   pub none_boots : s.jobs.resume.running ≡ None
+  pub calm : s.jobs.started ≡ true → IsCalm s
+  pub waits : AreBatches (point_of s.story).seq (ops_waiting s.writing.waiting)
   pub stored : IsStored state s
+
+-- That of a store that a resume took over, and hasn't cleared: writes are stopped.
+pub record IsTakenOver (state : Disk) (s : State) : Type 0 where
+  pub one_to_one : IsOneToOne state
+  pub cuts : CutsExist state
+  pub kept : BootKept s state
+  pub stopped : is_some (stopping s) ≡ true
 
 -- the device as a crash left it: at rest, and it stands for what is left of the story
 pub record IsLeft (state : Disk) (story : Story) : Type 0 where
@@ -184,11 +191,12 @@ pub record IsLeft (state : Disk) (story : Story) : Type 0 where
   pub after_crash : IsAfterCrash story
   pub stands : Stands state story
 
--- the device of a store that boots
+-- the device of a store that boots, which takes no batches
 pub record IsBootingStore (state : Disk) (s : State) : Type 0 where
   pub one_to_one : IsOneToOne state
   pub cuts : CutsExist state
   pub kept : BootKept s state
+  pub none_waits : s.writing.waiting ≡ []
 
 -- what is kept where no store is open: of one that was left, and where there is no story
 abbrev pub KeptShut : Bool → Disk → State → Type 0
@@ -196,7 +204,7 @@ KeptShut true state s = IsLeft state s.story
 KeptShut false state s = IsFirst state
 
 abbrev pub KeptBy : Phase → Bool → Disk → State → Type 0
-KeptBy Open left state s = IsKept state s
+KeptBy Open left state s = IsKept state s ⊎ IsTakenOver state s
 KeptBy Booting left state s = IsBootingStore state s
 KeptBy Shut left state s = KeptShut left state s
 

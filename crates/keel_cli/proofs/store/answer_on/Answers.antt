@@ -5,7 +5,7 @@ use Rattle.keel_cli.specs.Drains.{DrainRun, DrainCut}
 use Rattle.keel_cli.specs.Flushes.{FlushRun, FlushCut}
 use Rattle.keel_cli.specs.Puts.{put_batch, del_batch, PutRun, PutCut, QueueRun, QueueCut}
 use Rattle.keel_cli.specs.Writes.{WriteRun, WriteCut}
-use Rattle.keel_cli.proofs.Carrying.{called, cut_before, error_told, levels_told}
+use Rattle.keel_cli.proofs.Carrying.{called, cut_before, error_told, levels_told, resume_told}
 use Rattle.keel_cli.proofs.store.answer_on.Goals as goal
 
 pub returns-in-Write-clause-out : goal.returns-in-Write-clause-out
@@ -27,6 +27,10 @@ returns-in-Flush-clause-out g c s stands borne =
 pub returns-in-Error-clause-out : goal.returns-in-Error-clause-out
 returns-in-Error-clause-out g c s stands borne =
     rw c.in-Error.is (error_told c.args.options.now c.args.core.now s stands c.error.result (c.error.ensures s stands))
+
+pub returns-in-Resume-clause-out : goal.returns-in-Resume-clause-out
+returns-in-Resume-clause-out g c s stands borne =
+    rw c.in-Resume.is (resume_told c.args.options.now c.args.core.now s stands c.start.new.core c.start.result (c.start.ensures.carried s stands))
 
 pub returns-in-Levels-clause-out : goal.returns-in-Levels-clause-out
 returns-in-Levels-clause-out g c s stands borne =

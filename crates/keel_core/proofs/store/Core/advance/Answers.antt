@@ -4,11 +4,12 @@ use Rattle.keel_core.specs.Segments.{segments_shown}
 use Rattle.keel_core.specs.Flights.{flying, log_shown}
 use Rattle.keel_core.specs.Trails.{shown}
 use Rattle.keel_core.specs.Views.{CoreView}
-use Rattle.keel_core.proofs.BootJobs.{cleared_goes, failed_goes, goes_on_way, log_at_end, moved_goes}
+use Rattle.keel_core.proofs.BootJobs.{goes_on_way, log_at_end}
+use Rattle.keel_core.proofs.Closings.{cleared_closed, failed_closed, moved_closed}
 use Rattle.keel_core.proofs.store.Core.advance.Goals as goal
 
-pub invariant_of-t-28 : goal.invariant_of-t-28
-invariant_of-t-28 g c =
+pub invariant_of-running : goal.invariant_of-running
+invariant_of-running g c =
     let m = c.in-Moved.ensures in
     record {
       going = m.goes_on;
@@ -45,7 +46,7 @@ returns-in-Moved g c =
       next_file = w.next_file.number;
       manifest = w.manifest;
     } in
-    rw (← c.self.view_is, ← c.running.view_is) (tt, moved_goes old c.args.number c.running.inside.steps _ _ c.in-Moved.call c.in-Moved.ensures)
+    rw (c.close.ensures, ← c.self.view_is, ← c.running.view_is) (tt, moved_closed old c.args.number c.args.booted c.running.inside.steps _ _ c.args.closing c.in-Moved.call c.in-Moved.ensures)
 
 pub returns-in-Done : goal.returns-in-Done
 returns-in-Done g c =
@@ -72,7 +73,7 @@ returns-in-Done g c =
       next_file = w.next_file.number;
       manifest = w.manifest;
     } in
-    rw (c.clear.ensures, ← c.self.view_is, ← c.running.view_is) (tt, cleared_goes old c.args.number c.running.inside.steps _ _ c.in-Done.ensures)
+    rw (c.clear.ensures, c.close-in-Done.ensures, ← c.self.view_is, ← c.running.view_is) (tt, cleared_closed old c.args.number c.args.booted c.running.inside.steps _ _ c.args.closing c.in-Done.ensures)
 
 pub returns-in-Failed : goal.returns-in-Failed
 returns-in-Failed g c =
@@ -99,4 +100,4 @@ returns-in-Failed g c =
       next_file = w.next_file.number;
       manifest = w.manifest;
     } in
-    rw (c.note.ensures, ← c.self.view_is, ← c.running.view_is) (tt, failed_goes old c.args.number c.running.inside.steps _ _ c.in-Failed.failure c.in-Failed.ensures)
+    rw (c.close-in-Failed.ensures, c.note.ensures, c.resting.ensures, ← c.self.view_is, ← c.running.view_is) (tt, failed_closed old c.args.number c.args.booted c.running.inside.steps _ _ c.args.closing c.in-Failed.failure c.in-Failed.ensures)

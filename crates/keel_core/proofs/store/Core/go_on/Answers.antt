@@ -7,7 +7,7 @@ returns-in-Ok g c =
     let old = c.args.self.now in
     let now = c.make_call.new.self in
     let act = c.next_act-act.result in
-    let flies = flies_on old act c.requires.can c.requires.some c.next_act-act.ensures.next in
+    let flies = flies_on old act c.requires.can c.requires.some c.next_act-act.ensures.next c.next_act-act.ensures.limbo c.next_act-act.ensures.flying in
     record {
       turn = rw (c.done.ensures.view, c.done.ensures.step) (done_goes old now act flies c.in-Ok.ensures);
       nearer = rw (c.done.ensures.view, c.done.ensures.step) (done_goes_nearer act old now flies c.in-Ok.ensures);
@@ -18,7 +18,7 @@ returns-in-Err-Fault g c =
     let old = c.args.self.now in
     let now = c.make_call.new.self in
     let act = c.next_act-act.result in
-    let flies = flies_on old act c.requires.can c.requires.some c.next_act-act.ensures.next in
+    let flies = flies_on old act c.requires.can c.requires.some c.next_act-act.ensures.next c.next_act-act.ensures.limbo c.next_act-act.ensures.flying in
     let answered = rw c.in-Err-Fault.field-0-is at c.in-Err-Fault.ensures in
     record {
       turn = rw (c.give_up.ensures.view, c.give_up.ensures.step) (failed_goes old now act c.in-Err-Fault.fault flies answered);

@@ -16,7 +16,7 @@ pub invariant_of-self : goal.invariant_of-self
 invariant_of-self g c =
     let w = c.self.inside in
     let t = c.publish.ensures in
-    published_in_order w.mem c.place.new.mem w.trail c.publish.new.self w.queue c.settle_done.new.self _ _ w.log w.last_seq w.handed_seq w.next_file.number c.args.sync _ c.self.invariant
+    published_in_order w.mem c.place.new.mem w.trail c.publish.new.self w.queue c.settle_done.new.self _ w.last_seq w.handed_seq w.next_file.number c.args.sync _ c.self.invariant
     (record {
       waiting = ap (λ v. v.items) c.settle_done.ensures.waiting;
       group = c.settle_done.ensures.group;

@@ -7,5 +7,5 @@ pub invariant_of-self : goal.invariant_of-self
 invariant_of-self g c =
     let w = c.self.inside in
     let q = c.turn_away.ensures in
-    turned_in_order w.mem w.trail w.queue c.turn_away.new.self _ _ w.log w.last_seq w.handed_seq w.next_file.number _ c.self.invariant
+    turned_in_order w.mem w.trail w.queue c.turn_away.new.self _ w.last_seq w.handed_seq w.next_file.number _ c.self.invariant
     q.waiting q.group q.outcomes (given_settled (outcome.Turned c.in-Turned.failure) (tickets_of w.queue.waiting.items) tt) q.len q.room q.last_ticket q.job

@@ -1,13 +1,13 @@
-use Rattle.std.proofs.Common.{rules, [], ◌∷◌, ◌++◌, ap, length, ◌∙◌, arith, refl}
+use Rattle.std.proofs.Common.{rules, [], ◌∷◌, ◌++◌, ap, length, ◌∙◌, arith}
 use Rattle.keel_disk.specs.declared.change.Change.TheVariants.{SyncDir}
 use Rattle.keel_core.specs.declared.flight.Act.TheVariants.{SyncDirectory}
 use Rattle.keel_core.specs.Boots.{boot_shown, levels_in}
 use Rattle.keel_core.specs.Segments.{segments_shown}
-use Rattle.keel_core.specs.Flights.{flying, log_shown}
-use Rattle.keel_core.specs.Trails.{shown}
+use Rattle.keel_core.specs.Flights.{batches_flying, flying, log_shown}
+use Rattle.keel_core.specs.Trails.{limbo_in, shown}
 use Rattle.keel_core.specs.Views.{CoreView}
 use Rattle.keel_core.proofs.Ordering.{switched_in_order}
-use Rattle.keel_core.proofs.Segmenting.{push_many, segments_shown-push}
+use Rattle.keel_core.proofs.Segmenting.{have_ops, push_many, segments_shown-push}
 use Rattle.keel_core.proofs.Standing.{IsInFlight, failed_goes, same_wanted, switch_goes, wants_goes}
 use Rattle.keel_core.proofs.Calling.{quiet_want}
 use Rattle.keel_core.proofs.store.Core.switch.Goals as goal
@@ -23,10 +23,8 @@ invariant_of-self-in-Ok-sync_dir g c =
     let after = c.replace-mem.ensures.after in
     let more = push_many c.reserve.new.self.items _ _ c.push_reserved.ensures.items in
     let same = ap (λ l. length l) c.reserve.ensures.items in
-    switched_in_order w.mem c.replace-mem.new.dest w.trail w.queue c.move_on.new.self _ _ _ w.log _ w.last_seq w.handed_seq w.next_file.number c.self.invariant
+    switched_in_order w.mem c.replace-mem.new.dest w.trail w.queue c.move_on.new.self _ _ w.last_seq w.handed_seq w.next_file.number c.self.invariant
     (record { waiting = q.waiting; group = q.group; outcomes = q.outcomes; ticket = q.last_ticket; job = q.job })
-    (rw (← c.self.view_is) at c.requires.can.cleared)
-    refl
     (omega (arith, same, more, c.len.ensures, c.if-len-ge-MANY_SEGMENTS.false))
     (rw after next.rows)
     (rw after next.bytes)
@@ -67,6 +65,7 @@ returns-in-Ok-sync_dir-clause-turn g c =
       cleared = rw (← c.self.view_is) at c.requires.can.cleared;
       on_plan = rw (← c.self.view_is) at c.requires.can.on_plan;
       next = rw (← c.self.view_is) at c.requires.next;
+      some = (have_ops (limbo_in w.trail) c.self.invariant.limbo, have_ops (batches_flying (flying w.queue.group)) c.self.invariant.group);
     } in
     rw (← c.self.view_is) (switch_goes old _ c.args.log _ _ _ _ _ _ _ _
     flies (search rules) segments (rw c.replace-mem.ensures.after next.rows) (ap (λ v. v.items) q.waiting) q.group (ap (λ v. v.items) q.outcomes) q.last_ticket q.job q.step)
@@ -100,6 +99,7 @@ returns-in-Err-Fault-clause-turn g c =
       cleared = rw (← c.self.view_is) at c.requires.can.cleared;
       on_plan = rw (← c.self.view_is) at c.requires.can.on_plan;
       next = rw (← c.self.view_is) at c.requires.next;
+      some = (have_ops (limbo_in w.trail) c.self.invariant.limbo, have_ops (batches_flying (flying w.queue.group)) c.self.invariant.group);
     } in
     rw (c.give_up.ensures.view, c.give_up.ensures.step, ← c.self.view_is)
     (failed_goes old (record old { device = D.seen c.sync_dir.new.self; immutable = segments_shown c.reserve.new.self.items }) (SyncDirectory c.args.log) _ flies

@@ -4,7 +4,7 @@ use Rattle.keel_resume.specs.Plans.{job_of}
 use Rattle.keel_core.specs.Segments.{segments_shown}
 use Rattle.keel_core.specs.Views.{last_in}
 use Rattle.keel_core.proofs.BootCovers.{CoversTo}
-use Rattle.keel_core.proofs.store.Core.new_boot.Given as goal
+use Rattle.keel_core.proofs.store.Core.job_of_full.Given as goal
 
 -- the job has the tables of the segments so far
 abbrev pub invariant-loop-segment : goal.invariant-loop-segment

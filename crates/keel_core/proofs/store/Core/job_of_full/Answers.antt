@@ -1,13 +1,12 @@
-use Rattle.std.proofs.Common.{◌+◌, length, drop, ap, sym, subst, ◌∙◌, refl, arith}
+use Rattle.std.proofs.Common.{◌+◌, length, drop, ap, sym, subst, ◌∙◌, arith}
 use Rattle.std.proofs.lemmas.List.{length-map}
 use Rattle.keel_levels.specs.declared.live.LiveTable.{LiveTable}
 use Rattle.keel_core.specs.Covering.{AreTablesFor}
 use Rattle.keel_core.specs.Views.{CoreView}
 use Rattle.keel_core.specs.Segments.{segment_shown, segments_shown}
 use Rattle.keel_core.proofs.BootCovers.{CoversTo, begin_covers, covers_all, covers_next, entries_many, has_rows, job_begins, job_goes}
-use Rattle.keel_core.proofs.BootJobs.{begins_on_way}
 use Rattle.keel_core.proofs.Lists.{next_item, none_behind}
-use Rattle.keel_core.proofs.store.Core.new_boot.Goals as goal
+use Rattle.keel_core.proofs.store.Core.job_of_full.Goals as goal
 
 pub loop-segment-init : goal.loop-segment-init
 loop-segment-init g c =
@@ -43,12 +42,6 @@ loop-segment-preserved g c =
           (covers_next (segments_shown items) _ _ (segment_shown c.segment-item.result) c.loop-segment.job.job.drafts k.draft next some k.is held.covers);
     }
 
-pub invariant_of-result : goal.invariant_of-result
-invariant_of-result g c = record {
-  going = c.loop-segment.invariant.going;
-  way = begins_on_way c.loop-segment.job.job c.loop-segment.job.job.drafts _ _ c.loop-segment.invariant.job;
-}
-
 pub returns : goal.returns
 returns g c =
     let items = c.as_slice-segment-items.result.now in
@@ -56,10 +49,9 @@ returns g c =
     let none = ap segments_shown (none_behind items c.loop-segment.segment-index c.loop-segment-test.false) in
     let drafts = c.loop-segment.job.job.drafts in
     record {
-      drafts = drafts;
       are = subst (λ l. AreTablesFor l drafts) (ap segments_shown c.as_slice-segment-items.ensures.value ∙ ap (λ (v : CoreView). v.immutable) c.self.view_is)
           (covers_all (segments_shown items) _ drafts none held.covers);
       few = held.few;
-      steps = refl;
       job = held.job;
+      going = held.going;
     }

@@ -1,0 +1,8 @@
+use Rattle.keel_cli.proofs.Starts.{start_run, start_told}
+use Rattle.keel_cli.proofs.starting.start.Goals as goal
+
+pub returns-clause-carried : goal.returns-clause-carried
+returns-clause-carried g c = start_run c.args.core.now c.resume-start.new.self c.resume-start.result c.start_reply.result c.resume-start.ensures.turn c.start_reply.ensures
+
+pub returns-clause-told : goal.returns-clause-told
+returns-clause-told g c = start_told c.args.core.now c.resume-start.new.self c.resume-start.result c.resume-start.ensures.turn c.requires.told
