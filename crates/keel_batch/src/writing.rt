@@ -49,6 +49,23 @@ fn put_op(out: &mut Bytes, op: &Op) -> Result<(), OutOfMemory>
     }
 }
 
+// At least as many bytes as the spelling of an op has, or the most that can be told.
+fn op_room(op: &Op) -> usize {
+    match op {
+        Op::Put { key, value } => key.len().saturating_add(value.len()).saturating_add(7),
+        Op::Del { key } => key.len().saturating_add(4),
+    }
+}
+
+// The same of a batch.
+fn batch_room(batch: &Batch) -> usize {
+    let mut room: usize = 12;
+    for op in batch.ops.as_slice() {
+        room = room.saturating_add(op_room(op));
+    }
+    room
+}
+
 /// The one spelling of the batch whose first op has that number.
 #[tactic(auto, unfolding(crate::specs::Spelling::spelling))]
 pub fn encode(alloc: Global, seq: u64, batch: &Batch) -> Result<Bytes, OutOfMemory>
@@ -56,6 +73,7 @@ pub fn encode(alloc: Global, seq: u64, batch: &Batch) -> Result<Bytes, OutOfMemo
     ensures { IfOk result (λ b. b ≡ spec.spelling seq batch.now.ops) }
 {
     let mut out = Bytes::new(alloc);
+    out.reserve(batch_room(batch))?;
     out.extend(&seq.to_le_bytes())?;
     out.extend(&(batch.ops.len() as u32).to_le_bytes())?;
     for op in batch.ops.as_slice() {
