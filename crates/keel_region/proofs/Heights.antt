@@ -180,6 +180,41 @@ grows_right place entry height left right lower tree grown evens own low =
           record { balanced = next.balanced; least = omega (arith, size, low, even.left_low, even.right_low, sub.least, sub.most, is); most = omega (arith, size, low, even.left_low, even.right_low, sub.least, sub.most, is) }
     ]
 
+-- a node over a subtree that is as high as it was
+pub grows_still_left : (place : ℕ) (entry : IndexEntry) (height : ℕ) (left right lower : Tree) → Grows left lower → height_of lower ≡ height_of left
+    → Grows (Fork place entry height left right) (Fork place entry height lower right)
+grows_still_left place entry height left right lower grown same own low =
+    let size : height ≡ suc (max (height_of left) (height_of right)) = own.0 in
+    let even : AreEven left right = own.1 in
+    let sub = grown own.2 (omega (arith, size, low)) in
+    record {
+      balanced = (
+        omega (arith, size, same),
+        record { left_low = omega (arith, same, even.left_low); right_low = omega (arith, same, even.right_low) },
+        sub.balanced,
+        own.3,
+      );
+      least = omega arith;
+      most = omega arith;
+    }
+
+pub grows_still_right : (place : ℕ) (entry : IndexEntry) (height : ℕ) (left right lower : Tree) → Grows right lower → height_of lower ≡ height_of right
+    → Grows (Fork place entry height left right) (Fork place entry height left lower)
+grows_still_right place entry height left right lower grown same own low =
+    let size : height ≡ suc (max (height_of left) (height_of right)) = own.0 in
+    let even : AreEven left right = own.1 in
+    let sub = grown own.3 (omega (arith, size, low)) in
+    record {
+      balanced = (
+        omega (arith, size, same),
+        record { left_low = omega (arith, same, even.left_low); right_low = omega (arith, same, even.right_low) },
+        own.2,
+        sub.balanced,
+      );
+      least = omega arith;
+      most = omega arith;
+    }
+
 -- the first node
 pub grows_first : (place : ℕ) (entry : IndexEntry) → Grows Leaf (Fork place entry 1 Leaf Leaf)
 grows_first place entry own low = record {

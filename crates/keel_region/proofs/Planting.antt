@@ -9,13 +9,13 @@ use Rattle.keel_region.specs.Order.{Precedes, AreInOrder, IsNew, entry_before}
 use Rattle.keel_region.specs.Places.{IsPlaceOf}
 use Rattle.keel_region.specs.Slots.{node_at}
 use Rattle.keel_region.specs.Spans.{bytes_at}
-use Rattle.keel_region.specs.Trees.{Tree, Leaf, Fork, root_of, walk, IsStored, Makes, Joins, put_in}
+use Rattle.keel_region.specs.Trees.{Tree, Leaf, Fork, root_of, walk, height_of, height_at, IsStored, Makes, Joins, put_in}
 use Rattle.keel_region.specs.Turns.{Evens, Grows}
 use Rattle.keel_region.proofs.Adding.{put_in_order}
 use Rattle.keel_region.proofs.Halves.{fails_from}
-use Rattle.keel_region.proofs.Heights.{grows_left, grows_right, grows_first}
+use Rattle.keel_region.proofs.Heights.{grows_left, grows_right, grows_still_left, grows_still_right, grows_first}
 use Rattle.keel_region.proofs.Orders.{Precedes-before}
-use Rattle.keel_region.proofs.Trees.{all_front, all_back, back_order, front_order, cross_order, halves, no_walk, leaf_is, after_left, after_right}
+use Rattle.keel_region.proofs.Trees.{all_front, all_back, back_order, front_order, cross_order, Halves, halves, height_reads, no_walk, leaf_is, after_left, after_right, kept_left, kept_right}
 
 left_by : (test : IndexEntry → Bool) (x y : IndexEntry) (xs : List IndexEntry) (e : IndexEntry) (ys : List IndexEntry) (b : Bool) → test y ≡ b
     → put_in test x (xs ++ e ∷ ys) ≡ put_in test x xs ++ e ∷ ys → put_in test x (y ∷ (xs ++ e ∷ ys)) ≡ put_in test x (y ∷ xs) ++ e ∷ ys
@@ -102,9 +102,14 @@ Puts bytes old new entry root result = (tree : Tree) → IsStored old tree → r
     → Makes (Grows tree) old new (put_in (own_test bytes entry) entry (walk tree)) (Some result)
 
 module _ (bytes : List ℕ) (old mid new : List (Option Node)) (entry : IndexEntry) (slot : Slot) (node : Node) (there : node_at old slot.place ≡ Some node) (lower root : Slot) where
-  pub put_right : own_test bytes entry node.entry ≡ true → Puts bytes old mid entry node.right lower
-      → Joins Evens mid new slot.place (record { entry = node.entry; left = node.left; right = Some lower; height = node.height }) root → Puts bytes old new entry (Some slot) root
-  put_right before puts joins tree stands rooted order fresh =
+  -- how the node's tree goes on from its right side, where the entry was put in
+  abbrev FinishRight : Type 0
+  FinishRight = (tree : Tree) (half : Halves old tree slot node) → Makes (Grows half.right) old mid (put_in (own_test bytes entry) entry (walk half.right)) (Some lower)
+      → AreInOrder bytes (walk half.left ++ node.entry ∷ put_in (own_test bytes entry) entry (walk half.right))
+      → Makes (Grows tree) old new (walk half.left ++ node.entry ∷ put_in (own_test bytes entry) entry (walk half.right)) (Some root)
+
+  by_right : own_test bytes entry node.entry ≡ true → Puts bytes old mid entry node.right lower → FinishRight → Puts bytes old new entry (Some slot) root
+  by_right before puts finish tree stands rooted order fresh =
       let half = halves old tree slot node stands rooted there in
       let test = own_test bytes entry in
       let whole : AreInOrder bytes (walk half.left ++ node.entry ∷ walk half.right) = subst (AreInOrder bytes) half.is order in
@@ -112,7 +117,6 @@ module _ (bytes : List ℕ) (old mid new : List (Option Node)) (entry : IndexEnt
       let right_order = back_order bytes (node.entry ∷ []) (walk half.right) (back_order bytes (walk half.left) (node.entry ∷ walk half.right) whole) in
       let P : IndexEntry → Type 0 = λ other. bytes_at bytes other.key ≡ bytes_at bytes entry.key → other.seq ≢ entry.seq in
       let right_fresh : IsNew bytes (walk half.right) entry = all_back P (node.entry ∷ []) (walk half.right) (all_back P (walk half.left) (node.entry ∷ walk half.right) fresh_whole) in
-      let made = puts half.right half.stands_right half.root_right right_order right_fresh in
       let same : put_in test entry (walk half.left ++ node.entry ∷ walk half.right) ≡ walk half.left ++ node.entry ∷ put_in test entry (walk half.right) =
       put_in_right test entry (walk half.left) node.entry (walk half.right)
       (λ k d lt. Precedes-before bytes (bytes_at bytes entry.key) (Some entry.seq) (get_or (walk half.left) k d) node.entry
@@ -121,32 +125,73 @@ module _ (bytes : List ℕ) (old mid new : List (Option Node)) (entry : IndexEnt
       let after : AreInOrder bytes (walk half.left ++ node.entry ∷ put_in test entry (walk half.right)) =
       subst (AreInOrder bytes) same (put_order bytes (walk half.left ++ node.entry ∷ walk half.right) entry whole fresh_whole) in
       subst (λ (xs : List IndexEntry). Makes (Grows tree) old new xs (Some root)) (sym (ap (put_in test entry) half.is ∙ same))
-      (after_right (Grows half.right) (Grows tree) Evens old mid new bytes (put_in test entry (walk half.right)) half.left slot.place
+      (finish tree half (puts half.right half.stands_right half.root_right right_order right_fresh) after)
+
+  pub put_right : own_test bytes entry node.entry ≡ true → Puts bytes old mid entry node.right lower
+      → Joins Evens mid new slot.place (record { entry = node.entry; left = node.left; right = Some lower; height = node.height }) root → Puts bytes old new entry (Some slot) root
+  put_right before puts joins = by_right before puts (λ tree half made after.
+      after_right (Grows half.right) (Grows tree) Evens old mid new bytes (put_in (own_test bytes entry) entry (walk half.right)) half.left slot.place
       (record { entry = node.entry; left = node.left; right = Some lower; height = node.height }) root
       made half.stands_left half.root_left (record { node = node; there = there; is = refl }) after joins
       (λ lower grown more evens.
       subst (λ (t : Tree). Grows t grown) (sym half.fork) (grows_right slot.place node.entry node.height half.left half.right lower grown more evens)))
 
-  pub put_left : own_test bytes entry node.entry ≡ false → Puts bytes old mid entry node.left lower
-      → Joins Evens mid new slot.place (record { entry = node.entry; left = Some lower; right = node.right; height = node.height }) root → Puts bytes old new entry (Some slot) root
-  put_left behind puts joins tree stands rooted order fresh =
+  -- the same from its left side
+  abbrev FinishLeft : Type 0
+  FinishLeft = (tree : Tree) (half : Halves old tree slot node) → Makes (Grows half.left) old mid (put_in (own_test bytes entry) entry (walk half.left)) (Some lower)
+      → AreInOrder bytes (put_in (own_test bytes entry) entry (walk half.left) ++ node.entry ∷ walk half.right)
+      → Makes (Grows tree) old new (put_in (own_test bytes entry) entry (walk half.left) ++ node.entry ∷ walk half.right) (Some root)
+
+  by_left : own_test bytes entry node.entry ≡ false → Puts bytes old mid entry node.left lower → FinishLeft → Puts bytes old new entry (Some slot) root
+  by_left behind puts finish tree stands rooted order fresh =
       let half = halves old tree slot node stands rooted there in
       let test = own_test bytes entry in
       let whole : AreInOrder bytes (walk half.left ++ node.entry ∷ walk half.right) = subst (AreInOrder bytes) half.is order in
       let fresh_whole : IsNew bytes (walk half.left ++ node.entry ∷ walk half.right) entry = subst (λ (xs : List IndexEntry). IsNew bytes xs entry) half.is fresh in
       let P : IndexEntry → Type 0 = λ other. bytes_at bytes other.key ≡ bytes_at bytes entry.key → other.seq ≢ entry.seq in
       let left_fresh : IsNew bytes (walk half.left) entry = all_front P (walk half.left) (node.entry ∷ walk half.right) fresh_whole in
-      let made = puts half.left half.stands_left half.root_left (front_order bytes (walk half.left) (node.entry ∷ walk half.right) whole) left_fresh in
       let same : put_in test entry (walk half.left ++ node.entry ∷ walk half.right) ≡ put_in test entry (walk half.left) ++ node.entry ∷ walk half.right =
       put_in_left test entry (walk half.left) node.entry (walk half.right) behind in
       let after : AreInOrder bytes (put_in test entry (walk half.left) ++ node.entry ∷ walk half.right) =
       subst (AreInOrder bytes) same (put_order bytes (walk half.left ++ node.entry ∷ walk half.right) entry whole fresh_whole) in
       subst (λ (xs : List IndexEntry). Makes (Grows tree) old new xs (Some root)) (sym (ap (put_in test entry) half.is ∙ same))
-      (after_left (Grows half.left) (Grows tree) Evens old mid new bytes (put_in test entry (walk half.left)) half.right slot.place
+      (finish tree half (puts half.left half.stands_left half.root_left (front_order bytes (walk half.left) (node.entry ∷ walk half.right) whole) left_fresh) after)
+
+  pub put_left : own_test bytes entry node.entry ≡ false → Puts bytes old mid entry node.left lower
+      → Joins Evens mid new slot.place (record { entry = node.entry; left = Some lower; right = node.right; height = node.height }) root → Puts bytes old new entry (Some slot) root
+  put_left behind puts joins = by_left behind puts (λ tree half made after.
+      after_left (Grows half.left) (Grows tree) Evens old mid new bytes (put_in (own_test bytes entry) entry (walk half.left)) half.right slot.place
       (record { entry = node.entry; left = Some lower; right = node.right; height = node.height }) root
       made half.stands_right half.root_right (record { node = node; there = there; is = refl }) after joins
       (λ lower grown more evens.
       subst (λ (t : Tree). Grows t grown) (sym half.fork) (grows_left slot.place node.entry node.height half.left half.right lower grown more evens)))
+
+-- a child that keeps its slot and its height leaves its parent's node as it is
+module _ (bytes : List ℕ) (old new : List (Option Node)) (entry : IndexEntry) (slot : Slot) (node : Node) (there : node_at old slot.place ≡ Some node) (lower : Slot) where
+  level : (before after : Tree) (root : Option Slot) → IsStored old before → root_of before ≡ root → IsStored new after → root_of after ≡ root
+      → height_at new root ≡ height_at old root → height_of after ≡ height_of before
+  level before after root stands rooted stands_after rooted_after same =
+      height_reads new after root stands_after rooted_after ∙ same ∙ sym (height_reads old before root stands rooted)
+
+  pub keep_right : own_test bytes entry node.entry ≡ true → Puts bytes old new entry node.right lower → node.right ≡ Some lower
+      → height_at new node.right ≡ height_at old node.right → Puts bytes old new entry (Some slot) slot
+  keep_right before puts is high = by_right bytes old new new entry slot node there lower slot before puts (λ tree half made after.
+      let rooted = made.rooted ∙ sym is in
+      kept_right (Grows half.right) (Grows tree) old new bytes (put_in (own_test bytes entry) entry (walk half.right)) half.left slot.place node
+      made rooted half.stands_left half.root_left there after
+      (λ grown. subst (λ (t : Tree). Grows t (Fork slot.place node.entry node.height half.left made.tree)) (sym half.fork)
+      (grows_still_right slot.place node.entry node.height half.left half.right made.tree grown
+      (level half.right made.tree node.right half.stands_right half.root_right made.stands rooted high))))
+
+  pub keep_left : own_test bytes entry node.entry ≡ false → Puts bytes old new entry node.left lower → node.left ≡ Some lower
+      → height_at new node.left ≡ height_at old node.left → Puts bytes old new entry (Some slot) slot
+  keep_left behind puts is high = by_left bytes old new new entry slot node there lower slot behind puts (λ tree half made after.
+      let rooted = made.rooted ∙ sym is in
+      kept_left (Grows half.left) (Grows tree) old new bytes (put_in (own_test bytes entry) entry (walk half.left)) half.right slot.place node
+      made rooted half.stands_right half.root_right there after
+      (λ grown. subst (λ (t : Tree). Grows t (Fork slot.place node.entry node.height made.tree half.right)) (sym half.fork)
+      (grows_still_left slot.place node.entry node.height half.left half.right made.tree grown
+      (level half.left made.tree node.left half.stands_left half.root_left made.stands rooted high))))
 
 none_node : (old : List (Option Node)) (place : ℕ) (node : Node) → node_at old place ≡ None → node_at old place ≡ Some node → ⊥
 none_node old place node e f = cc

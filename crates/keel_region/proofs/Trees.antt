@@ -224,6 +224,48 @@ after_right given known joined old mid new bytes entries left place node root ma
           (λ h. out (subst (λ (xs : List IndexEntry). Contains xs n.entry) same h));
     }
 
+-- a node that stays over a subtree in which entries were put in, and which keeps its root
+pub kept_left : (given known : Tree → Type 0) (old new : List (Option Node)) (bytes : List ℕ) (entries : List IndexEntry) (right : Tree) (place : ℕ) (node : Node) {root : Option Slot}
+    → (made : Makes given old new entries root) → root_of made.tree ≡ node.left → IsStored old right → root_of right ≡ node.right → node_at old place ≡ Some node
+    → AreInOrder bytes (entries ++ node.entry ∷ walk right) → (given made.tree → known (Fork place node.entry node.height made.tree right))
+    → Makes known old new (entries ++ node.entry ∷ walk right) (Some (record { place = place }))
+kept_left given known old new bytes entries right place node made rooted stands_right root_right there order combine =
+    let apart = front_apart bytes entries (walk right) node.entry order in
+    record {
+      tree = Fork place node.entry node.height made.tree right;
+      rooted = refl;
+      stands = (
+        made.others place node there (λ h. apart node.entry h (0, omega arith, refl))
+            ∙ (λ i. Some (record { entry = node.entry; left = sym rooted i; right = sym root_right i; height = node.height })),
+        made.stands,
+        stands_still old new right entries stands_right made.others (λ x h g. apart x g (Contains-append_right (node.entry ∷ []) (walk right) x h)),
+      );
+      is = ap (λ (xs : List IndexEntry). xs ++ node.entry ∷ walk right) made.is;
+      shape = combine made.shape;
+      others = λ p n e out. made.others p n e (λ h. out (in_front node.entry n.entry entries (walk right) h));
+    }
+
+pub kept_right : (given known : Tree → Type 0) (old new : List (Option Node)) (bytes : List ℕ) (entries : List IndexEntry) (left : Tree) (place : ℕ) (node : Node) {root : Option Slot}
+    → (made : Makes given old new entries root) → root_of made.tree ≡ node.right → IsStored old left → root_of left ≡ node.left → node_at old place ≡ Some node
+    → AreInOrder bytes (walk left ++ node.entry ∷ entries) → (given made.tree → known (Fork place node.entry node.height left made.tree))
+    → Makes known old new (walk left ++ node.entry ∷ entries) (Some (record { place = place }))
+kept_right given known old new bytes entries left place node made rooted stands_left root_left there order combine =
+    let apart = front_apart bytes (walk left) entries node.entry order in
+    let own = own_apart bytes (walk left) entries node.entry order in
+    record {
+      tree = Fork place node.entry node.height left made.tree;
+      rooted = refl;
+      stands = (
+        made.others place node there (λ h. own node.entry h (0, omega arith, refl))
+            ∙ (λ i. Some (record { entry = node.entry; left = sym root_left i; right = sym rooted i; height = node.height })),
+        stands_still old new left entries stands_left made.others (λ x h g. apart x h (Contains-append_right (node.entry ∷ []) entries x g)),
+        made.stands,
+      );
+      is = ap (λ (xs : List IndexEntry). walk left ++ node.entry ∷ xs) made.is;
+      shape = combine made.shape;
+      others = λ p n e out. made.others p n e (λ h. out (in_back node.entry n.entry (walk left) entries h));
+    }
+
 -- the same tree under a list that is equal
 makes_as : (known : Tree → Type 0) (old new : List (Option Node)) (xs ys : List IndexEntry) (root : Option Slot) → xs ≡ ys → Makes known old new xs root → Makes known old new ys root
 makes_as known old new xs ys root e made = subst (λ (l : List IndexEntry). Makes known old new l root) e made

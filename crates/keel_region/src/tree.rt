@@ -1,5 +1,5 @@
 // A search tree whose nodes lie in a pool, and which is kept in balance.
-ghost use Rattle.std.specs.Prelude.{◌≡◌, ℕ, ◌+◌, ◌<◌, length, false, Some, None, IsSome, IfSome, IfNone};
+ghost use Rattle.std.specs.Prelude.{◌≡◌, ℕ, ◌+◌, ◌<◌, length, true, false, Some, None, IsSome, IfSome, IfNone};
 ghost use Rattle.keel_region.specs.Order.{entry_before, AreInOrder, IsNew};
 ghost use Rattle.keel_region.specs.Slots.{node_at};
 ghost use Rattle.keel_region.specs.Spans.{bytes_at, IsHeld};
@@ -157,6 +157,14 @@ fn balance(pool: &mut Pool, slot: Slot, node: Node) -> Slot
     }
 }
 
+/// Whether a child keeps its slot and its height, so that its parent's node stays as it is.
+fn is_unmoved(pool: &Pool, child: Option<Slot>, next: Slot, before: u8) -> bool
+    ensures slot { result ≡ true → child ≡ Some next }
+    ensures height { result ≡ true → height_at pool.now.slots child ≡ before }
+{
+    child == Some(next) && height(pool, child) == before
+}
+
 /// Puts the entry in at its place in the tree below the root, and gives the new root.
 pub(crate) fn insert_below(
     pool: &mut Pool,
@@ -188,7 +196,11 @@ pub(crate) fn insert_below(
                     region.bytes(entry.key),
                     Some(entry.seq),
                 ) {
+                    let before = height(pool, node.right);
                     let right = insert_below(pool, region, node.right, entry);
+                    if is_unmoved(pool, node.right, right, before) {
+                        return slot;
+                    }
                     balance(
                         pool,
                         slot,
@@ -198,7 +210,11 @@ pub(crate) fn insert_below(
                         },
                     )
                 } else {
+                    let before = height(pool, node.left);
                     let left = insert_below(pool, region, node.left, entry);
+                    if is_unmoved(pool, node.left, left, before) {
+                        return slot;
+                    }
                     balance(
                         pool,
                         slot,

@@ -3,7 +3,7 @@ use Rattle.keel_region.specs.declared.pool.Slot.{Slot}
 use Rattle.keel_region.specs.Order.{entry_before}
 use Rattle.keel_region.specs.Spans.{IsHeld}
 use Rattle.keel_region.proofs.Growing.{has_left, has_right, left_less, right_less, own_held}
-use Rattle.keel_region.proofs.Planting.{Puts, own_test, put_left, put_right, put_first}
+use Rattle.keel_region.proofs.Planting.{Puts, own_test, put_left, put_right, keep_left, keep_right, put_first}
 use Rattle.keel_region.proofs.tree.+insert_below.Goals as goal
 
 pub is_before-requires : goal.is_before-requires
@@ -34,8 +34,19 @@ returns-in-None-clause-puts t c =
     subst (λ (r : Option Slot). Puts bytes c.args.pool.now.slots c.take.new.self.slots c.args.entry r c.take.result) (sym c.in-None.is)
     (put_first bytes c.args.pool.now.slots c.take.new.self.slots c.args.entry c.take.result c.take.ensures.free c.take.ensures.taken c.take.ensures.others)
 
-pub returns-then-is_before-clause-puts : goal.returns-then-is_before-clause-puts
-returns-then-is_before-clause-puts t c =
+pub returns-then-is_unmoved-clause-puts : goal.returns-then-is_unmoved-clause-puts
+returns-then-is_unmoved-clause-puts t c =
+    let bytes = c.args.region.now.bytes in
+    let old = c.args.pool.now.slots in
+    let node = c.in-Some-get.node in
+    let before : own_test bytes c.args.entry node.entry ≡ true =
+    ap (λ (key : List ℕ). entry_before bytes key (Some c.args.entry.seq) node.entry) (sym c.bytes.ensures) ∙ sym c.is_before.ensures ∙ c.if-is_before.true in
+    subst (λ (r : Option Slot). Puts bytes old c.insert_below-right.new.pool.slots c.args.entry r c.in-Some.slot) (sym c.in-Some.is)
+    (keep_right bytes old c.insert_below-right.new.pool.slots c.args.entry c.in-Some.slot node (sym c.in-Some-get.ensures) c.insert_below-right.result
+    before c.insert_below-right.ensures.puts (c.is_unmoved.ensures.slot c.if-is_unmoved.true) (c.is_unmoved.ensures.height c.if-is_unmoved.true ∙ c.height-before.ensures))
+
+pub returns-else-is_unmoved-clause-puts : goal.returns-else-is_unmoved-clause-puts
+returns-else-is_unmoved-clause-puts t c =
     let bytes = c.args.region.now.bytes in
     let old = c.args.pool.now.slots in
     let node = c.in-Some-get.node in
@@ -45,8 +56,19 @@ returns-then-is_before-clause-puts t c =
     (put_right bytes old c.insert_below-right.new.pool.slots c.balance.new.pool.slots c.args.entry c.in-Some.slot node (sym c.in-Some-get.ensures)
     c.insert_below-right.result c.balance.result before c.insert_below-right.ensures.puts c.balance.ensures.joins)
 
-pub returns-else-is_before-clause-puts : goal.returns-else-is_before-clause-puts
-returns-else-is_before-clause-puts t c =
+pub returns-then-is_unmoved-2-clause-puts : goal.returns-then-is_unmoved-2-clause-puts
+returns-then-is_unmoved-2-clause-puts t c =
+    let bytes = c.args.region.now.bytes in
+    let old = c.args.pool.now.slots in
+    let node = c.in-Some-get.node in
+    let behind : own_test bytes c.args.entry node.entry ≡ false =
+    ap (λ (key : List ℕ). entry_before bytes key (Some c.args.entry.seq) node.entry) (sym c.bytes.ensures) ∙ sym c.is_before.ensures ∙ c.if-is_before.false in
+    subst (λ (r : Option Slot). Puts bytes old c.insert_below-left.new.pool.slots c.args.entry r c.in-Some.slot) (sym c.in-Some.is)
+    (keep_left bytes old c.insert_below-left.new.pool.slots c.args.entry c.in-Some.slot node (sym c.in-Some-get.ensures) c.insert_below-left.result
+    behind c.insert_below-left.ensures.puts (c.is_unmoved-else-is_before.ensures.slot c.if-is_unmoved-2.true) (c.is_unmoved-else-is_before.ensures.height c.if-is_unmoved-2.true ∙ c.height-before-else-is_before.ensures))
+
+pub returns-else-is_unmoved-2-clause-puts : goal.returns-else-is_unmoved-2-clause-puts
+returns-else-is_unmoved-2-clause-puts t c =
     let bytes = c.args.region.now.bytes in
     let old = c.args.pool.now.slots in
     let node = c.in-Some-get.node in
