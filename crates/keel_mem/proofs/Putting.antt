@@ -1,6 +1,6 @@
 -- A row is put: its bytes behind those that are there, its entry in at its place.
 use Rattle.std.proofs.Common.{◌≡◌, ℕ, ◌+◌, ◌-◌, ◌*◌, ◌^◌, ◌<◌, ◌≤◌, List, [], ◌∷◌, ◌++◌, length, take, drop, Some, None, refl, sym, ap, subst, ◌∙◌, arith}
-use Rattle.std.specs.Prelude.{All, insert, sum_by, slice_get}
+use Rattle.std.specs.Prelude.{All, insert, sum_by}
 use Rattle.std.specs.List.Sorted.{IsPermutation}
 use Rattle.std.proofs.lemmas.List.{length-append}
 use Rattle.std.proofs.lemmas.List.Elements.{All-append, All-cons, All-push, All-take, All-drop}
@@ -121,15 +121,14 @@ first_of_some : (rows : List Row) (seq : ℕ) → 0 < length rows → first_of r
 first_of_some [] seq lt = absurd (omega arith)
 first_of_some (row ∷ rows) seq lt = refl
 
-pub first_where_none : (bytes : List ℕ) (entries : List IndexEntry) (seq : ℕ) → slice_get entries 0 ≡ None → first_of (rows_by_arrival bytes entries) seq ≡ seq
+pub first_where_none : (bytes : List ℕ) (entries : List IndexEntry) (seq : ℕ) → length entries ≡ 0 → first_of (rows_by_arrival bytes entries) seq ≡ seq
 first_where_none bytes [] seq h = refl
-first_where_none bytes (entry ∷ entries) seq h = absurd cc
+first_where_none bytes (entry ∷ entries) seq h = absurd (omega (arith, h))
 
-pub first_where_some : (bytes : List ℕ) (entries : List IndexEntry) (seq : ℕ) (entry : IndexEntry) → slice_get entries 0 ≡ Some entry
+pub first_where_some : (bytes : List ℕ) (entries : List IndexEntry) (seq : ℕ) → 0 < length entries
     → first_of (rows_by_arrival bytes entries) seq ≡ least_seq (rows_by_arrival bytes entries)
-first_where_some bytes [] seq entry h = absurd cc
-first_where_some bytes (head ∷ entries) seq entry h =
-    first_of_some (rows_by_arrival bytes (head ∷ entries)) seq (omega (arith, length_arrived bytes (head ∷ entries)))
+first_where_some bytes entries seq h =
+    first_of_some (rows_by_arrival bytes entries) seq (omega (arith, h, length_arrived bytes entries))
 
 weight_sum : (rows : List Row) → weight_of rows ≡ 16 * length rows + sum_by row_bytes rows
 weight_sum [] = refl

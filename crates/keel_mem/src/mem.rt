@@ -185,9 +185,10 @@ impl Mem {
         requires { All (λ row. row.seq < seq) self.now.rows }
         ensures { result ≡ first_of self.now.rows seq }
     {
-        match self.index.first() {
-            None => seq,
-            Some(_) => self.first,
+        if self.index.len() == 0 {
+            seq
+        } else {
+            self.first
         }
     }
 
