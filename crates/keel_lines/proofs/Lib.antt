@@ -1,4 +1,5 @@
 pub mod Deliveries
 mod Lefts
+mod Newlines
 mod Parts
 pub mod Texts

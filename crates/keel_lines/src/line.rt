@@ -7,6 +7,7 @@ ghost use Rattle.keel_lines.specs.Pieces.{rest_of, mark_if, GoesOn, IsBegun, IsT
 
 use crate::piece::Piece;
 use keel_base::{Bytes, Failed, OutOfMemory, Source};
+use memchr::memchr;
 
 /// The most bytes of a line, without its newline.
 pub const MAX_LINE: usize = 8192;
@@ -53,11 +54,10 @@ fn length_before(bytes: &[u8]) -> usize
     ensures length { result ≡ length_before bytes.now }
     ensures within { result ≤ length bytes.now }
 {
-    let mut count = 0;
-    'bytes: while count < bytes.len() && bytes[count] != b'\n' {
-        count += 1;
+    match memchr(b'\n', bytes) {
+        Some(place) => place,
+        None => bytes.len(),
     }
-    count
 }
 
 // Adds to a line that has begun what the piece has of it, and says whether that ends with the newline. There is
