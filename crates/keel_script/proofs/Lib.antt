@@ -7,6 +7,7 @@ pub mod Splitting
 pub mod Spellings
 pub mod OwnLines
 pub mod PartLaws
+pub mod PlainEights
 pub mod PlainRuns
 pub mod Sound
 pub mod Steps

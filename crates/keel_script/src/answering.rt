@@ -1,11 +1,11 @@
 // From a reply to its line.
-ghost use Rattle.std.specs.Prelude.{◌≡◌, ◌∷◌, [], ◌++◌, IfOk};
+ghost use Rattle.std.specs.Prelude.{◌≡◌, ◌∷◌, [], ◌++◌, IfOk, OnOk};
 ghost use Rattle.std.specs.Fmt.{decimal};
 ghost use Rattle.keel_base.specs.Name.{printed};
 ghost use Rattle.keel_script.specs.Replies.{told, failure_words, reply_line};
 
 use crate::Reply;
-use crate::line::{numbers, start, with_number, with_numbers, with_text, with_word};
+use crate::line::{add_great_number, add_number, add_text, add_word, numbers};
 use crate::names::{call_name, counter_name, fault_name, grade_number, reason_name, slot_name};
 use keel_base::{Bytes, Failure, FileName, OutOfMemory};
 use keel_name::print;
@@ -15,63 +15,73 @@ use std::alloc::Global;
 pub fn print_reply(alloc: Global, reply: &Reply) -> Result<Bytes, OutOfMemory>
     ensures { IfOk result (λ line. line ≡ reply_line reply.now) }
 {
+    let mut line = Bytes::new(alloc);
+    add_reply(alloc, &mut line, reply)?;
+    Ok(line)
+}
+
+/// Adds the line of a reply, without its newline.
+pub fn add_reply(alloc: Global, line: &mut Bytes, reply: &Reply) -> Result<(), OutOfMemory>
+    ensures { OnOk result (line.new ≡ line.old ++ reply_line reply.now) }
+{
     match reply {
         // Options, and whether the store is open.
         Reply::OptionSet { name, value } => {
-            with_number(
-                alloc,
-                worded(alloc, b"option", name.name())?,
-                *value as u128,
-            )
+            worded(line, b"option", name.name())?;
+            add_number(line, *value)
         }
         Reply::BadOption {
             name,
             least,
             greatest,
-        } => {
-            let line = worded(alloc, b"bad-option", name.name())?;
-            with_numbers(alloc, line, &[*least as u128, *greatest as u128])
-        }
-        Reply::IsOpen => start(alloc, b"is-open"),
-        Reply::NotOpen => start(alloc, b"not-open"),
-        Reply::Opened { seq } => one(alloc, b"opened", *seq),
+        } => worded_pair(line, b"bad-option", name.name(), *least, *greatest),
+        Reply::IsOpen => line.extend(b"is-open"),
+        Reply::NotOpen => line.extend(b"not-open"),
+        Reply::Opened { seq } => one(line, b"opened", *seq),
         // Why the store did not open.
-        Reply::RefusedDevice(fault) => worded(alloc, b"refused device", fault_name(*fault)),
-        Reply::RefusedNoCurrent(name) => named(alloc, b"refused no-current", *name),
-        Reply::RefusedBadCurrent(text) => with_text(start(alloc, b"refused bad-current")?, text),
-        Reply::RefusedDamagedManifest { at } => one(alloc, b"refused damaged-manifest", *at),
-        Reply::RefusedMissingTable { number } => one(alloc, b"refused missing-table", *number),
-        Reply::RefusedBadTable { number } => one(alloc, b"refused bad-table", *number),
-        Reply::RefusedBadLog { number, at } => two(alloc, b"refused bad-log", *number, *at),
+        Reply::RefusedDevice(fault) => worded(line, b"refused device", fault_name(*fault)),
+        Reply::RefusedNoCurrent(name) => named(alloc, line, b"refused no-current", *name),
+        Reply::RefusedBadCurrent(text) => {
+            line.extend(b"refused bad-current")?;
+            add_text(line, text)
+        }
+        Reply::RefusedDamagedManifest { at } => one(line, b"refused damaged-manifest", *at),
+        Reply::RefusedMissingTable { number } => one(line, b"refused missing-table", *number),
+        Reply::RefusedBadTable { number } => one(line, b"refused bad-table", *number),
+        Reply::RefusedBadLog { number, at } => two(line, b"refused bad-log", *number, *at),
         Reply::RefusedLogGap {
             number,
             expected,
             found,
-        } => three(alloc, b"refused log-gap", *number, *expected, *found),
+        } => three(line, b"refused log-gap", *number, *expected, *found),
         // What became of a write, or of asking for one.
-        Reply::PutOk { seq } => one(alloc, b"ok", *seq),
-        Reply::Failed(failure) => failed(alloc, b"failed", *failure),
-        Reply::Stopped(failure) => failed(alloc, b"stopped", *failure),
-        Reply::Booting => start(alloc, b"booting"),
-        Reply::BadSizeKey { length } => one(alloc, b"bad-size key", *length),
-        Reply::BadSizeValue { length } => one(alloc, b"bad-size value", *length),
-        Reply::Spent(counter) => worded(alloc, b"spent", counter_name(*counter)),
-        Reply::Full { active, immutables } => two(alloc, b"full", *active, *immutables as u64),
-        Reply::QueueFull { waiting } => one(alloc, b"queue-full", *waiting as u64),
-        Reply::Waiting { ticket } => one(alloc, b"waiting", *ticket),
-        Reply::Queued { ticket } => one(alloc, b"queued", *ticket),
+        Reply::PutOk { seq } => one(line, b"ok", *seq),
+        Reply::Failed(failure) => failed(line, b"failed", *failure),
+        Reply::Stopped(failure) => failed(line, b"stopped", *failure),
+        Reply::Booting => line.extend(b"booting"),
+        Reply::BadSizeKey { length } => one(line, b"bad-size key", *length),
+        Reply::BadSizeValue { length } => one(line, b"bad-size value", *length),
+        Reply::Spent(counter) => worded(line, b"spent", counter_name(*counter)),
+        Reply::Full { active, immutables } => two(line, b"full", *active, *immutables as u64),
+        Reply::QueueFull { waiting } => one(line, b"queue-full", *waiting as u64),
+        Reply::Waiting { ticket } => one(line, b"waiting", *ticket),
+        Reply::Queued { ticket } => one(line, b"queued", *ticket),
         // What a step did, and why it did nothing.
-        Reply::Idle => start(alloc, b"idle"),
-        Reply::Moved { job, call } => with_word(one(alloc, b"moved", *job)?, call_name(*call)),
+        Reply::Idle => line.extend(b"idle"),
+        Reply::Moved { job, call } => {
+            one(line, b"moved", *job)?;
+            add_word(line, call_name(*call))
+        }
         Reply::WriteDone { job, seq, batches } => {
-            three(alloc, b"done", *job, *seq, *batches as u64)
+            three(line, b"done", *job, *seq, *batches as u64)
         }
         Reply::Turned { batches, failure } => {
-            with_failure(one(alloc, b"turned", *batches as u64)?, *failure)
+            one(line, b"turned", *batches as u64)?;
+            add_failure(line, *failure)
         }
-        Reply::Cancelled { job, current } => two(alloc, b"cancelled", *job, *current),
-        Reply::JobDone { job } => one(alloc, b"done", *job),
-        Reply::Blocked(slot) => worded(alloc, b"blocked", slot_name(*slot)),
+        Reply::Cancelled { job, current } => two(line, b"cancelled", *job, *current),
+        Reply::JobDone { job } => one(line, b"done", *job),
+        Reply::Blocked(slot) => worded(line, b"blocked", slot_name(*slot)),
         Reply::NoRoom {
             reserved,
             inputs,
@@ -86,40 +96,45 @@ pub fn print_reply(alloc: Global, reply: &Reply) -> Result<Bytes, OutOfMemory>
                 *tracked,
                 *limit as u128,
             ];
-            numbers(alloc, b"no-room", &sums)
+            numbers(line, b"no-room", &sums)
         }
-        Reply::Wait { until } => one(alloc, b"wait", *until),
+        Reply::Wait { until } => one(line, b"wait", *until),
         // Deletions.
-        Reply::Purged(name) => named(alloc, b"purged", *name),
-        Reply::Trashed(name) => named(alloc, b"trashed", *name),
-        Reply::Cut { name, length } => sized(alloc, b"cut", *name, *length),
-        Reply::Removed(name) => named(alloc, b"removed", *name),
-        Reply::DeleteRefused(fault) => worded(alloc, b"refused", fault_name(*fault)),
+        Reply::Purged(name) => named(alloc, line, b"purged", *name),
+        Reply::Trashed(name) => named(alloc, line, b"trashed", *name),
+        Reply::Cut { name, length } => sized(alloc, line, b"cut", *name, *length),
+        Reply::Removed(name) => named(alloc, line, b"removed", *name),
+        Reply::DeleteRefused(fault) => worded(line, b"refused", fault_name(*fault)),
         // Recovery.
-        Reply::Nothing => start(alloc, b"nothing"),
-        Reply::Busy { job } => one(alloc, b"busy", *job),
-        Reply::Beyond(failure) => failed(alloc, b"beyond", *failure),
-        Reply::Cleared => start(alloc, b"cleared"),
-        Reply::Started { job } => one(alloc, b"started", *job),
-        Reply::JobCleared { job, steps } => two(alloc, b"cleared", *job, *steps),
-        Reply::NoSpaceYet { free, need } => two(alloc, b"no-space", *free, *need),
-        Reply::OverLimit { total, limit } => {
-            numbers(alloc, b"over-limit", &[*total, *limit as u128])
-        }
-        Reply::GivenUp { attempts } => one(alloc, b"given-up", *attempts as u64),
+        Reply::Nothing => line.extend(b"nothing"),
+        Reply::Busy { job } => one(line, b"busy", *job),
+        Reply::Beyond(failure) => failed(line, b"beyond", *failure),
+        Reply::Cleared => line.extend(b"cleared"),
+        Reply::Started { job } => one(line, b"started", *job),
+        Reply::JobCleared { job, steps } => two(line, b"cleared", *job, *steps),
+        Reply::NoSpaceYet { free, need } => two(line, b"no-space", *free, *need),
+        Reply::OverLimit { total, limit } => great_pair(line, b"over-limit", *total, *limit),
+        Reply::GivenUp { attempts } => one(line, b"given-up", *attempts as u64),
         // Rounds of all actors, and time.
-        Reply::Quiet => start(alloc, b"quiet"),
-        Reply::More => start(alloc, b"more"),
-        Reply::Now { tick } => one(alloc, b"now", *tick),
+        Reply::Quiet => line.extend(b"quiet"),
+        Reply::More => line.extend(b"more"),
+        Reply::Now { tick } => one(line, b"now", *tick),
         // What was read, and why it was not.
-        Reply::Value(value) => with_text(start(alloc, b"value")?, value),
-        Reply::Absent => start(alloc, b"absent"),
-        Reply::Row { key, value } => with_text(with_text(start(alloc, b"row")?, key)?, value),
-        Reply::Rows { count } => one(alloc, b"rows", *count),
-        Reply::ErrorNone => start(alloc, b"error none"),
+        Reply::Value(value) => {
+            line.extend(b"value")?;
+            add_text(line, value)
+        }
+        Reply::Absent => line.extend(b"absent"),
+        Reply::Row { key, value } => {
+            line.extend(b"row")?;
+            add_text(line, key)?;
+            add_text(line, value)
+        }
+        Reply::Rows { count } => one(line, b"rows", *count),
+        Reply::ErrorNone => line.extend(b"error none"),
         Reply::Error { failure, grade } => {
-            let line = failed(alloc, b"error", *failure)?;
-            with_number(alloc, line, grade_number(*grade) as u128)
+            failed(line, b"error", *failure)?;
+            add_number(line, grade_number(*grade) as u64)
         }
         Reply::Space {
             tracked,
@@ -127,105 +142,141 @@ pub fn print_reply(alloc: Global, reply: &Reply) -> Result<Bytes, OutOfMemory>
             reserved,
             limit,
         } => numbers(
-            alloc,
+            line,
             b"space",
             &[*tracked, *trash, *reserved, *limit as u128],
         ),
-        Reply::FileLine { name, size } => sized(alloc, b"file", *name, *size),
-        Reply::Files { count } => one(alloc, b"files", *count),
-        Reply::ReadFault(fault) => worded(alloc, b"read-fault", fault_name(*fault)),
+        Reply::FileLine { name, size } => sized(alloc, line, b"file", *name, *size),
+        Reply::Files { count } => one(line, b"files", *count),
+        Reply::ReadFault(fault) => worded(line, b"read-fault", fault_name(*fault)),
         Reply::BadCheck { stored, computed } => {
-            two(alloc, b"bad-check", *stored as u64, *computed as u64)
+            two(line, b"bad-check", *stored as u64, *computed as u64)
         }
-        Reply::BadShape { at } => one(alloc, b"bad-shape", *at),
-        Reply::AbsentTable { number } => one(alloc, b"absent-table", *number),
+        Reply::BadShape { at } => one(line, b"bad-shape", *at),
+        Reply::AbsentTable { number } => one(line, b"absent-table", *number),
         Reply::Level {
             level,
             files,
             bytes,
-        } => numbers(alloc, b"level", &[*level as u128, *files as u128, *bytes]),
+        } => numbers(line, b"level", &[*level as u128, *files as u128, *bytes]),
         Reply::Memory {
             active,
             immutables,
             waiting,
         } => three(
-            alloc,
+            line,
             b"memory",
             *active,
             *immutables as u64,
             *waiting as u64,
         ),
         // The limit of an open store, its end, and the simulated device.
-        Reply::Limit { limit } => one(alloc, b"limit", *limit),
-        Reply::Closed { tickets } => one(alloc, b"closed", *tickets),
-        Reply::Armed => start(alloc, b"armed"),
-        Reply::NotSimulated => start(alloc, b"not-simulated"),
-        Reply::Capacity { bytes } => one(alloc, b"capacity", *bytes),
-        Reply::Crashed => start(alloc, b"crashed"),
-        Reply::NotBuilt => start(alloc, b"not-built"),
+        Reply::Limit { limit } => one(line, b"limit", *limit),
+        Reply::Closed { tickets } => one(line, b"closed", *tickets),
+        Reply::Armed => line.extend(b"armed"),
+        Reply::NotSimulated => line.extend(b"not-simulated"),
+        Reply::Capacity { bytes } => one(line, b"capacity", *bytes),
+        Reply::Crashed => line.extend(b"crashed"),
+        Reply::NotBuilt => line.extend(b"not-built"),
     }
 }
 
-// A line of one number.
-fn one(alloc: Global, head: &[u8], number: u64) -> Result<Bytes, OutOfMemory>
-    ensures { IfOk result (λ line. line ≡ told head.now (decimal number ∷ [])) }
+// Adds a head and a number.
+fn one(line: &mut Bytes, head: &[u8], number: u64) -> Result<(), OutOfMemory>
+    ensures { OnOk result (line.new ≡ line.old ++ told head.now (decimal number ∷ [])) }
 {
-    with_number(alloc, start(alloc, head)?, number as u128)
+    line.extend(head)?;
+    add_number(line, number)
 }
 
-// A line of two numbers.
-fn two(alloc: Global, head: &[u8], first: u64, second: u64) -> Result<Bytes, OutOfMemory>
-    ensures { IfOk result (λ line. line ≡ told head.now (decimal first ∷ decimal second ∷ [])) }
+// Adds a head and two numbers.
+fn two(line: &mut Bytes, head: &[u8], first: u64, second: u64) -> Result<(), OutOfMemory>
+    ensures { OnOk result (line.new ≡ line.old ++ told head.now (decimal first ∷ decimal second ∷ [])) }
 {
-    numbers(alloc, head, &[first as u128, second as u128])
+    one(line, head, first)?;
+    add_number(line, second)
 }
 
-// A line of three numbers.
+// Adds a head and three numbers.
 fn three(
-    alloc: Global,
+    line: &mut Bytes,
     head: &[u8],
     first: u64,
     second: u64,
     third: u64,
-) -> Result<Bytes, OutOfMemory>
-    ensures { IfOk result (λ line. line ≡ told head.now (decimal first ∷ decimal second ∷ decimal third ∷ [])) }
+) -> Result<(), OutOfMemory>
+    ensures { OnOk result (line.new ≡ line.old ++ told head.now (decimal first ∷ decimal second ∷ decimal third ∷ [])) }
 {
-    numbers(alloc, head, &[first as u128, second as u128, third as u128])
+    two(line, head, first, second)?;
+    add_number(line, third)
 }
 
-// A line of a word.
-fn worded(alloc: Global, head: &[u8], word: &[u8]) -> Result<Bytes, OutOfMemory>
-    ensures { IfOk result (λ line. line ≡ told head.now (word.now ∷ [])) }
+// Adds a head and a word.
+fn worded(line: &mut Bytes, head: &[u8], word: &[u8]) -> Result<(), OutOfMemory>
+    ensures { OnOk result (line.new ≡ line.old ++ told head.now (word.now ∷ [])) }
 {
-    with_word(start(alloc, head)?, word)
+    line.extend(head)?;
+    add_word(line, word)
 }
 
-// A line of the name of a file.
-fn named(alloc: Global, head: &[u8], name: FileName) -> Result<Bytes, OutOfMemory>
-    ensures { IfOk result (λ line. line ≡ told head.now (printed name ∷ [])) }
+// Adds a head, a word and two numbers.
+fn worded_pair(
+    line: &mut Bytes,
+    head: &[u8],
+    word: &[u8],
+    first: u64,
+    second: u64,
+) -> Result<(), OutOfMemory>
+    ensures { OnOk result (line.new ≡ line.old ++ told head.now (word.now ∷ decimal first ∷ decimal second ∷ [])) }
+{
+    worded(line, head, word)?;
+    add_number(line, first)?;
+    add_number(line, second)
+}
+
+// Adds a head and two numbers, of which 64 bits may be too few for the first.
+fn great_pair(line: &mut Bytes, head: &[u8], first: u128, second: u64) -> Result<(), OutOfMemory>
+    ensures { OnOk result (line.new ≡ line.old ++ told head.now (decimal first ∷ decimal second ∷ [])) }
+{
+    line.extend(head)?;
+    add_great_number(line, first)?;
+    add_number(line, second)
+}
+
+// Adds a head and the name of a file.
+fn named(alloc: Global, line: &mut Bytes, head: &[u8], name: FileName) -> Result<(), OutOfMemory>
+    ensures { OnOk result (line.new ≡ line.old ++ told head.now (printed name ∷ [])) }
 {
     let name = print(alloc, name)?;
-    with_word(start(alloc, head)?, name.as_slice())
+    worded(line, head, name.as_slice())
 }
 
-// A line of the name of a file and a size.
-fn sized(alloc: Global, head: &[u8], name: FileName, size: u64) -> Result<Bytes, OutOfMemory>
-    ensures { IfOk result (λ line. line ≡ told head.now (printed name ∷ decimal size ∷ [])) }
+// Adds a head, the name of a file and a size.
+fn sized(
+    alloc: Global,
+    line: &mut Bytes,
+    head: &[u8],
+    name: FileName,
+    size: u64,
+) -> Result<(), OutOfMemory>
+    ensures { OnOk result (line.new ≡ line.old ++ told head.now (printed name ∷ decimal size ∷ [])) }
 {
-    with_number(alloc, named(alloc, head, name)?, size as u128)
+    named(alloc, line, head, name)?;
+    add_number(line, size)
 }
 
-// A line of a failure.
-fn failed(alloc: Global, head: &[u8], failure: Failure) -> Result<Bytes, OutOfMemory>
-    ensures { IfOk result (λ line. line ≡ told head.now (failure_words failure)) }
+// Adds a head and a failure.
+fn failed(line: &mut Bytes, head: &[u8], failure: Failure) -> Result<(), OutOfMemory>
+    ensures { OnOk result (line.new ≡ line.old ++ told head.now (failure_words failure)) }
 {
-    with_failure(start(alloc, head)?, failure)
+    line.extend(head)?;
+    add_failure(line, failure)
 }
 
-// The line with a failure at its end.
-fn with_failure(line: Bytes, failure: Failure) -> Result<Bytes, OutOfMemory>
-    ensures { IfOk result (λ longer. longer ≡ told line (failure_words failure)) }
+// Adds a failure.
+fn add_failure(line: &mut Bytes, failure: Failure) -> Result<(), OutOfMemory>
+    ensures { OnOk result (line.new ≡ told line.old (failure_words failure)) }
 {
-    let line = with_word(line, reason_name(failure.reason))?;
-    with_word(line, fault_name(failure.fault))
+    add_word(line, reason_name(failure.reason))?;
+    add_word(line, fault_name(failure.fault))
 }

@@ -1,64 +1,64 @@
 // Lines that are printed word by word.
-ghost use Rattle.std.specs.Prelude.{◌≡◌, ◌<◌, ◌∷◌, ◌++◌, true, IfOk, OnOk};
+ghost use Rattle.std.specs.Prelude.{◌≡◌, ◌<◌, ◌∷◌, ◌++◌, true, OnOk};
 ghost use Rattle.std.specs.Fmt.{decimal, digit_glyph};
 ghost use Rattle.std.specs.List.{flat_map};
 ghost use Rattle.keel_script.specs.Texts.{printed_byte, printed_text};
 
 use crate::text::{is_plain, plain_length};
+use itoa::Buffer;
 use keel_base::{Bytes, OutOfMemory};
-use std::alloc::Global;
 
-/// A line that begins with these bytes.
-pub fn start(alloc: Global, head: &[u8]) -> Result<Bytes, OutOfMemory>
-    ensures { IfOk result (λ line. line ≡ head.now) }
-{
-    Bytes::from_slice(alloc, head)
-}
-
-/// The line with a space and a word at its end.
-pub fn with_word(mut line: Bytes, word: &[u8]) -> Result<Bytes, OutOfMemory>
-    ensures { IfOk result (λ longer. longer ≡ line ++ 32 ∷ word.now) }
+/// Adds a space and a word.
+pub fn add_word(line: &mut Bytes, word: &[u8]) -> Result<(), OutOfMemory>
+    ensures { OnOk result (line.new ≡ line.old ++ 32 ∷ word.now) }
 {
     line.extend(b" ")?;
-    line.extend(word)?;
-    Ok(line)
+    line.extend(word)
 }
 
-/// The line with a space and a number at its end.
-pub fn with_number(alloc: Global, line: Bytes, number: u128) -> Result<Bytes, OutOfMemory>
-    ensures { IfOk result (λ longer. longer ≡ line ++ 32 ∷ decimal number) }
+/// Adds a space and a number.
+pub fn add_number(line: &mut Bytes, number: u64) -> Result<(), OutOfMemory>
+    ensures { OnOk result (line.new ≡ line.old ++ 32 ∷ decimal number) }
 {
-    let digits = number.to_string(alloc)?;
-    with_word(line, digits.as_bytes())
+    let mut digits = Buffer::new();
+    add_word(line, digits.format(number).as_bytes())
 }
 
-/// The line with a space and a number at its end for each of these.
-pub fn with_numbers(alloc: Global, mut line: Bytes, numbers: &[u128]) -> Result<Bytes, OutOfMemory>
-    ensures { IfOk result (λ longer. longer ≡ line ++ flat_map (λ n. 32 ∷ decimal n) numbers.now) }
+/// Adds a space and a number that 64 bits may be too few for.
+pub fn add_great_number(line: &mut Bytes, number: u128) -> Result<(), OutOfMemory>
+    ensures { OnOk result (line.new ≡ line.old ++ 32 ∷ decimal number) }
+{
+    let mut digits = Buffer::new();
+    add_word(line, digits.format(number).as_bytes())
+}
+
+/// Adds a space and a number for each of these.
+pub fn add_numbers(line: &mut Bytes, numbers: &[u128]) -> Result<(), OutOfMemory>
+    ensures { OnOk result (line.new ≡ line.old ++ flat_map (λ n. 32 ∷ decimal n) numbers.now) }
 {
     for number in numbers {
-        line = with_number(alloc, line, *number)?;
+        add_great_number(line, *number)?;
     }
-    Ok(line)
+    Ok(())
 }
 
-/// A line of this beginning and of numbers.
-pub fn numbers(alloc: Global, head: &[u8], numbers: &[u128]) -> Result<Bytes, OutOfMemory>
-    ensures { IfOk result (λ line. line ≡ head.now ++ flat_map (λ n. 32 ∷ decimal n) numbers.now) }
+/// Adds this beginning and numbers.
+pub fn numbers(line: &mut Bytes, head: &[u8], numbers: &[u128]) -> Result<(), OutOfMemory>
+    ensures { OnOk result (line.new ≡ line.old ++ head.now ++ flat_map (λ n. 32 ∷ decimal n) numbers.now) }
 {
-    with_numbers(alloc, start(alloc, head)?, numbers)
+    line.extend(head)?;
+    add_numbers(line, numbers)
 }
 
-/// The line with a space and a text at its end.
-pub fn with_text(mut line: Bytes, text: &Bytes) -> Result<Bytes, OutOfMemory>
-    ensures { IfOk result (λ longer. longer ≡ line ++ 32 ∷ printed_text text.now) }
+/// Adds a space and a text.
+pub fn add_text(line: &mut Bytes, text: &Bytes) -> Result<(), OutOfMemory>
+    ensures { OnOk result (line.new ≡ line.old ++ 32 ∷ printed_text text.now) }
 {
     line.extend(b" ")?;
     match text.as_slice() {
-        [] => line.extend(b"%")?,
-        bytes => add_bytes(&mut line, bytes)?,
+        [] => line.extend(b"%"),
+        bytes => add_bytes(line, bytes),
     }
-    Ok(line)
 }
 
 fn add_bytes(line: &mut Bytes, bytes: &[u8]) -> Result<(), OutOfMemory>

@@ -1,5 +1,5 @@
 // From a command to its line.
-ghost use Rattle.std.specs.Prelude.{◌≡◌, ◌∷◌, [], ◌++◌, IfOk, codes};
+ghost use Rattle.std.specs.Prelude.{◌≡◌, ◌∷◌, [], ◌++◌, IfOk, OnOk, codes};
 ghost use Rattle.std.specs.Fmt.{decimal};
 ghost use Rattle.std.specs.List.{flat_map};
 ghost use Rattle.keel_script.specs.Grammar.{command_line, synced};
@@ -8,7 +8,7 @@ ghost use Rattle.keel_script.specs.Parts.{printed_parts};
 ghost use Rattle.keel_script.specs.Parts.Part.{Text};
 
 use crate::Command;
-use crate::line::{numbers, start, with_number, with_numbers, with_text, with_word};
+use crate::line::{add_number, add_numbers, add_text, add_word, numbers};
 use crate::names::{call_name, fault_name};
 use keel_base::{Bytes, Call, Fault, OutOfMemory};
 use std::alloc::Global;
@@ -17,37 +17,65 @@ use std::alloc::Global;
 pub fn print_command(alloc: Global, command: &Command) -> Result<Bytes, OutOfMemory>
     ensures { IfOk result (λ line. line ≡ command_line command.now) }
 {
+    let mut line = Bytes::new(alloc);
+    add_command(&mut line, command)?;
+    Ok(line)
+}
+
+fn add_command(line: &mut Bytes, command: &Command) -> Result<(), OutOfMemory>
+    ensures { OnOk result (line.new ≡ line.old ++ command_line command.now) }
+{
     match command {
         Command::SetOption { name, value } => {
-            let line = with_word(start(alloc, b"option")?, name.name())?;
-            with_number(alloc, line, *value as u128)
+            line.extend(b"option")?;
+            add_word(line, name.name())?;
+            add_number(line, *value)
         }
-        Command::Open => start(alloc, b"open"),
-        Command::Put { key, value, sync } => put(start(alloc, b"put")?, key, value, *sync),
-        Command::Del { key, sync } => del(start(alloc, b"del")?, key, *sync),
+        Command::Open => line.extend(b"open"),
+        Command::Put { key, value, sync } => {
+            line.extend(b"put")?;
+            put(line, key, value, *sync)
+        }
+        Command::Del { key, sync } => {
+            line.extend(b"del")?;
+            del(line, key, *sync)
+        }
         Command::QueuePut {
             client,
             key,
             value,
             sync,
-        } => put(queued(alloc, *client, b"put")?, key, value, *sync),
-        Command::QueueDel { client, key, sync } => del(queued(alloc, *client, b"del")?, key, *sync),
-        Command::Write => start(alloc, b"write"),
-        Command::Flush => start(alloc, b"flush"),
-        Command::Compact { slot } => numbers(alloc, b"compact", &[*slot as u128]),
-        Command::Delete => start(alloc, b"delete"),
-        Command::Resume => start(alloc, b"resume"),
-        Command::ResumeStep => start(alloc, b"resume-step"),
-        Command::Drain { moves } => numbers(alloc, b"drain", &[*moves as u128]),
-        Command::Tick { ticks } => numbers(alloc, b"tick", &[*ticks as u128]),
-        Command::Get { key } => with_text(start(alloc, b"get")?, key),
-        Command::Scan { from, to } => with_text(with_text(start(alloc, b"scan")?, from)?, to),
-        Command::Error => start(alloc, b"error"),
-        Command::Space => start(alloc, b"space"),
-        Command::Files => start(alloc, b"files"),
-        Command::Levels => start(alloc, b"levels"),
-        Command::Limit { limit } => numbers(alloc, b"limit", &[*limit as u128]),
-        Command::Close => start(alloc, b"close"),
+        } => {
+            queued(line, *client, b"put")?;
+            put(line, key, value, *sync)
+        }
+        Command::QueueDel { client, key, sync } => {
+            queued(line, *client, b"del")?;
+            del(line, key, *sync)
+        }
+        Command::Write => line.extend(b"write"),
+        Command::Flush => line.extend(b"flush"),
+        Command::Compact { slot } => numbers(line, b"compact", &[*slot as u128]),
+        Command::Delete => line.extend(b"delete"),
+        Command::Resume => line.extend(b"resume"),
+        Command::ResumeStep => line.extend(b"resume-step"),
+        Command::Drain { moves } => numbers(line, b"drain", &[*moves as u128]),
+        Command::Tick { ticks } => numbers(line, b"tick", &[*ticks as u128]),
+        Command::Get { key } => {
+            line.extend(b"get")?;
+            add_text(line, key)
+        }
+        Command::Scan { from, to } => {
+            line.extend(b"scan")?;
+            add_text(line, from)?;
+            add_text(line, to)
+        }
+        Command::Error => line.extend(b"error"),
+        Command::Space => line.extend(b"space"),
+        Command::Files => line.extend(b"files"),
+        Command::Levels => line.extend(b"levels"),
+        Command::Limit { limit } => numbers(line, b"limit", &[*limit as u128]),
+        Command::Close => line.extend(b"close"),
         Command::Fail {
             call,
             fault,
@@ -55,19 +83,19 @@ pub fn print_command(alloc: Global, command: &Command) -> Result<Bytes, OutOfMem
             times,
             keep,
         } => fail(
-            alloc,
+            line,
             *call,
             *fault,
             &[*skip as u128, *times as u128, *keep as u128],
         ),
-        Command::Capacity { bytes } => numbers(alloc, b"capacity", &[*bytes as u128]),
+        Command::Capacity { bytes } => numbers(line, b"capacity", &[*bytes as u128]),
         Command::Crash {
             dirops,
             keep,
             garbage,
             seed,
         } => numbers(
-            alloc,
+            line,
             b"crash",
             &[
                 *dirops as u128,
@@ -80,42 +108,45 @@ pub fn print_command(alloc: Global, command: &Command) -> Result<Bytes, OutOfMem
 }
 
 // A client's write, up to its key.
-fn queued(alloc: Global, client: u8, write: &[u8]) -> Result<Bytes, OutOfMemory>
-    ensures { IfOk result (λ line. line ≡ codes "queue" ++ 32 ∷ decimal client ++ 32 ∷ write.now) }
+fn queued(line: &mut Bytes, client: u8, write: &[u8]) -> Result<(), OutOfMemory>
+    ensures { OnOk result (line.new ≡ line.old ++ codes "queue" ++ 32 ∷ decimal client ++ 32 ∷ write.now) }
 {
-    let line = with_number(alloc, start(alloc, b"queue")?, client as u128)?;
-    with_word(line, write)
+    line.extend(b"queue")?;
+    add_number(line, client as u64)?;
+    add_word(line, write)
 }
 
-fn put(line: Bytes, key: &Bytes, value: &Bytes, sync: bool) -> Result<Bytes, OutOfMemory>
-    ensures { IfOk result (λ longer. longer ≡ line ++ printed_parts (Text key.now ∷ Text value.now ∷ synced sync)) }
+fn put(line: &mut Bytes, key: &Bytes, value: &Bytes, sync: bool) -> Result<(), OutOfMemory>
+    ensures { OnOk result (line.new ≡ line.old ++ printed_parts (Text key.now ∷ Text value.now ∷ synced sync)) }
 {
-    let line = with_text(with_text(line, key)?, value)?;
-    with_sync(line, sync)
+    add_text(line, key)?;
+    add_text(line, value)?;
+    add_sync(line, sync)
 }
 
-fn del(line: Bytes, key: &Bytes, sync: bool) -> Result<Bytes, OutOfMemory>
-    ensures { IfOk result (λ longer. longer ≡ line ++ printed_parts (Text key.now ∷ synced sync)) }
+fn del(line: &mut Bytes, key: &Bytes, sync: bool) -> Result<(), OutOfMemory>
+    ensures { OnOk result (line.new ≡ line.old ++ printed_parts (Text key.now ∷ synced sync)) }
 {
-    let line = with_text(line, key)?;
-    with_sync(line, sync)
+    add_text(line, key)?;
+    add_sync(line, sync)
 }
 
-fn with_sync(line: Bytes, sync: bool) -> Result<Bytes, OutOfMemory>
-    ensures { IfOk result (λ longer. longer ≡ line ++ printed_parts (synced sync)) }
+fn add_sync(line: &mut Bytes, sync: bool) -> Result<(), OutOfMemory>
+    ensures { OnOk result (line.new ≡ line.old ++ printed_parts (synced sync)) }
 {
     if sync {
-        with_word(line, b"sync")
+        add_word(line, b"sync")
     } else {
-        Ok(line)
+        Ok(())
     }
 }
 
 // A failure of a kind of calls, with its numbers.
-fn fail(alloc: Global, call: Call, fault: Fault, counts: &[u128]) -> Result<Bytes, OutOfMemory>
-    ensures { IfOk result (λ line. line ≡ codes "fail" ++ 32 ∷ call_name call ++ 32 ∷ fault_name fault ++ flat_map (λ n. 32 ∷ decimal n) counts.now) }
+fn fail(line: &mut Bytes, call: Call, fault: Fault, counts: &[u128]) -> Result<(), OutOfMemory>
+    ensures { OnOk result (line.new ≡ line.old ++ codes "fail" ++ 32 ∷ call_name call ++ 32 ∷ fault_name fault ++ flat_map (λ n. 32 ∷ decimal n) counts.now) }
 {
-    let head = with_word(start(alloc, b"fail")?, call_name(call))?;
-    let head = with_word(head, fault_name(fault))?;
-    with_numbers(alloc, head, counts)
+    line.extend(b"fail")?;
+    add_word(line, call_name(call))?;
+    add_word(line, fault_name(fault))?;
+    add_numbers(line, counts)
 }

@@ -1,5 +1,5 @@
 // Texts: any bytes in one word.
-ghost use Rattle.std.specs.Prelude.{◌≡◌, ℕ, ◌<◌, ◌≤◌, true, length, slice_index};
+ghost use Rattle.std.specs.Prelude.{◌≡◌, ℕ, ◌+◌, ◌<◌, ◌≤◌, true, length, slice_index};
 ghost use Rattle.std.specs.Char.{digit_value};
 ghost use Rattle.std.specs.Option.{SomeIff};
 ghost use Rattle.keel_script.specs.Reading.{Gives, byte_at, bytes_from, text_from};
@@ -41,17 +41,45 @@ fn bytes_of(alloc: Global, word: &[u8]) -> Result<Bytes, LineError>
     }
 }
 
-// How many bytes at the front may stand for themselves.
+// How many bytes at the front may stand for themselves. They are tried eight at a time, as long as so many are left.
 pub(crate) fn plain_length(bytes: &[u8]) -> usize
     ensures within { result ≤ length bytes.now }
     ensures plain { (k : ℕ) → k < result → is_plain (slice_index bytes.now k) ≡ true }
 {
-    for (place, byte) in bytes.iter().enumerate() {
-        if !is_plain(*byte) {
-            return place;
-        }
+    let mut count = 0;
+    'eights: while count + 8 <= bytes.len() && are_plain(bytes, count) {
+        count += 8;
     }
-    bytes.len()
+    plain_to(bytes, count)
+}
+
+// Whether the eight bytes from there on may stand for themselves. All of them are tried, which takes no branch.
+fn are_plain(bytes: &[u8], from: usize) -> bool
+    requires { from + 8 ≤ length bytes.now }
+    ensures { result ≡ true → (k : ℕ) → from ≤ k → k < from + 8 → is_plain (slice_index bytes.now k) ≡ true }
+{
+    is_plain(bytes[from])
+        & is_plain(bytes[from + 1])
+        & is_plain(bytes[from + 2])
+        & is_plain(bytes[from + 3])
+        & is_plain(bytes[from + 4])
+        & is_plain(bytes[from + 5])
+        & is_plain(bytes[from + 6])
+        & is_plain(bytes[from + 7])
+}
+
+// How far bytes from there on may stand for themselves.
+fn plain_to(bytes: &[u8], from: usize) -> usize
+    requires { from ≤ length bytes.now }
+    ensures behind { from ≤ result }
+    ensures within { result ≤ length bytes.now }
+    ensures plain { (k : ℕ) → from ≤ k → k < result → is_plain (slice_index bytes.now k) ≡ true }
+{
+    let mut count = from;
+    'bytes: while count < bytes.len() && is_plain(bytes[count]) {
+        count += 1;
+    }
+    count
 }
 
 // The first byte, and the spelling of the others.

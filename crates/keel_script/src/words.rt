@@ -2,6 +2,8 @@
 ghost use Rattle.std.specs.Prelude.{◌≡◌, ◌≢◌, ℕ, ◌<◌, ◌≤◌, ◌↔◌, length, slice_index, [], ◌∷◌, IsTrue, MatchOption};
 ghost use Rattle.keel_script.specs.Words.{words_of, IsBlank};
 
+use memchr::memchr;
+
 /// Whether a line says nothing and has no answer: it is empty, has spaces alone, or begins with `#`.
 pub fn is_blank(line: &[u8]) -> bool
     ensures { IsTrue result ↔ IsBlank line.now }
@@ -44,10 +46,8 @@ fn word_end(line: &[u8]) -> usize
     ensures before { (k : ℕ) → k < result → slice_index line.now k ≢ 32 }
     ensures there { result < length line.now → slice_index line.now result ≡ 32 }
 {
-    for (place, byte) in line.iter().enumerate() {
-        if *byte == b' ' {
-            return place;
-        }
+    match memchr(b' ', line) {
+        Some(place) => place,
+        None => line.len(),
     }
-    line.len()
 }

@@ -1,7 +1,7 @@
 use Rattle.std.proofs.Common.{◌≡◌, ◌++◌, ◌∷◌, take}
 use Rattle.std.specs.Fmt.{decimal}
 use Rattle.std.specs.List.{flat_map}
-use Rattle.keel_script.proofs.line.with_numbers.Given as goal
+use Rattle.keel_script.proofs.line.add_numbers.Given as goal
 
 abbrev pub invariant-loop-number : goal.invariant-loop-number
 invariant-loop-number l = l.line ≡ l.fn.line ++ flat_map (λ n. 32 ∷ decimal n) (take l.number-index l.numbers)
