@@ -11,12 +11,12 @@ use Rattle.keel_base.specs.Weight.{weight_of}
 use Rattle.keel_handler.specs.Failures.{standing_of, stopping_of}
 use Rattle.keel_group.specs.declared.formed.TheConstants.{MAX_WAITING}
 use Rattle.keel_machine.specs.declared.answers.Admit.{Admit}
-use Rattle.keel_machine.specs.declared.answers.Admit.TheVariants.{Queued, BadSize, Booting, Stopped, Spent, Full, QueueFull, OutOfMemory}
+use Rattle.keel_machine.specs.declared.answers.Admit.TheVariants.{Queued, BadSize, Closing, Booting, Stopped, Spent, Full, QueueFull, OutOfMemory}
 use Rattle.keel_machine.specs.declared.answers.Part.TheVariants.{Key, Value}
 use Rattle.keel_machine.specs.declared.answers.Part.TheVariants as part
 use Rattle.keel_machine.specs.declared.answers.Outcome.{Outcome}
 use Rattle.keel_machine.specs.declared.answers.Outcome.TheVariants as outcome
-use Rattle.keel_machine.specs.States.{State, Group, is_booting, point_of}
+use Rattle.keel_machine.specs.States.{State, Group, is_booting, is_closing, point_of}
 use Rattle.keel_machine.specs.Tests.{first_some, when}
 use Rattle.keel_draft.specs.Drafts.{count_ops}
 
@@ -109,6 +109,7 @@ is_queue_full s = nat_le MAX_WAITING (length s.writing.waiting)
 abbrev pub refusals : State → Batch → List (Option Admit)
 refusals s batch =
     size_refusal batch
+    ∷ when (is_closing s.mode.phase) Closing
     ∷ when (is_booting s.mode.phase) Booting
     ∷ option_map Stopped (stopping s)
     ∷ when (is_sequence_spent s batch) (Spent Sequence)

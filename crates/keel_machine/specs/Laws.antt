@@ -1,5 +1,5 @@
 -- Facts of the machine.
-use Rattle.std.specs.Prelude.{◌≡◌, ◌⊎◌, ℕ, ◌≤◌, nat_le, true, length, Option, Some, is_some}
+use Rattle.std.specs.Prelude.{◌≡◌, ◌⊎◌, ℕ, ◌≤◌, nat_le, true, false, [], length, Option, Some, None, is_some}
 use Rattle.keel_base.specs.Counts.{raised}
 use Rattle.keel_base.specs.declared.failure.Failure.{Failure}
 use Rattle.keel_base.specs.declared.failure.Fault.{Fault}
@@ -13,6 +13,7 @@ use Rattle.keel_machine.specs.declared.steps.JobStep.{JobStep}
 use Rattle.keel_machine.specs.declared.steps.WriteStep.{WriteStep}
 use Rattle.keel_handler.specs.Failures.{standing_severity}
 use Rattle.keel_machine.specs.Admission.{standing, stopping, AdmitAnswers}
+use Rattle.keel_machine.specs.Closing.{close_after, open_tickets}
 use Rattle.keel_machine.specs.Flushing.{FlushAnswers, is_work_stopped}
 use Rattle.keel_machine.specs.States.{State}
 use Rattle.keel_machine.specs.WritingAfter.{WriteAnswers, noted, failure_of}
@@ -54,3 +55,15 @@ abbrev pub StoppedWorkRests : Type 0
 StoppedWorkRests =
     (s : State) (draft : Draft) (held : Option ℕ) (step : JobStep) (device : Seen) → FlushAnswers s draft held step device → is_work_stopped s ≡ true
     → device.told ≡ s.device.told
+
+-- no group, no job and no waiting ticket
+pub record IsEnded (s : State) : Type 0 where
+  pub no_group : s.jobs.write.running ≡ None
+  pub no_flush : s.jobs.flush.running ≡ None
+  pub no_boot : s.jobs.resume.running ≡ None
+  pub none_started : s.jobs.started ≡ false
+  pub none_open : open_tickets s ≡ []
+
+-- Closing leaves none, and no batch is queued any more.
+abbrev pub ClosingEnds : Type 0
+ClosingEnds = (s : State) → IsEnded (close_after s) × ((batch : Batch) (ticket : ℕ) → AdmitAnswers (close_after s) batch (Queued ticket) → ⊥)

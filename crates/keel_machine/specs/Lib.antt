@@ -7,6 +7,7 @@ pub mod WritingAfter
 pub mod Resuming
 pub mod Flushing
 pub mod Starting
+pub mod Closing
 pub mod Telling
 pub mod Opening
 pub mod Crash

@@ -1,5 +1,5 @@
 -- Opening a store, and handing its device back.
-use Rattle.std.specs.Prelude.{◌≡◌, ℕ, Bool, true, false, List, [], ◌∷◌, map, Option, None, Some, Result, Ok, Err}
+use Rattle.std.specs.Prelude.{◌≡◌, ℕ, ◌≤◌, Bool, true, false, List, [], ◌∷◌, length, map, Option, None, Some, Result, Ok, Err}
 use Rattle.keel_base.specs.Points.{Point}
 use Rattle.keel_base.specs.declared.op.Op.{Op}
 use Rattle.keel_base.specs.declared.options.Options.{Options}
@@ -18,26 +18,34 @@ use Rattle.keel_open.specs.NextFiles.{IsNextFile}
 use Rattle.keel_open.specs.Refusals.{fault_in}
 use Rattle.keel_open.specs.Stores.{StoreTells}
 use Rattle.keel_version.specs.Tables.{AreLevels, IsWithin}
-use Rattle.keel_machine.specs.States.{State, Story, Footing, Known, Mode, Booting, Shut, Leaving, Crashed, Left, Segment, Slot, entries_in, new_story, no_batches, point_of}
+use Rattle.keel_machine.specs.States.{State, Story, Footing, Known, Mode, Booting, Shut, Leaving, Crashed, Left, Segment, Slot, entries_in, joined_story, new_story, no_batches, point_of}
 
--- What an opening finds: what the directory holds as a store, the point that it is read as, and the files of its tables.
+-- What an opening finds: what the directory holds as a store, the point that it is read as, the files of its tables, and how
+-- many of the story's batches in limbo are there, where a story goes on.
 pub record Found : Type 0 where
   pub store : StoreFound
   pub point : Point
   pub levels : List TableFile
+  pub joined : ℕ
 
 -- whether an opening goes on with a story, or begins one
 abbrev pub goes_on_from : Leaving → Footing → Bool
 goes_on_from Crashed Known = true
+goes_on_from Left Known = true
 goes_on_from _ footing = false
 
 abbrev pub continues : Mode → Footing → Bool
 continues mode footing = goes_on_from mode.left footing
 
--- a story goes on only with the point that it leads to
-abbrev pub GoesOnWith : Bool → Story → Point → Type 0
-GoesOnWith true story point = point ≡ point_of story
-GoesOnWith false story point = Unit {0}
+-- the point is the one that the story leads to with the first so many batches of its limbo
+pub record GoesOn (story : Story) (joined : ℕ) (point : Point) : Type 0 where
+  pub within : joined ≤ length story.limbo
+  pub point_is : point ≡ point_of (joined_story joined story)
+
+-- a story goes on only so
+abbrev pub GoesOnWith : Bool → Story → ℕ → Point → Type 0
+GoesOnWith true story joined point = GoesOn story joined point
+GoesOnWith false story joined point = Unit {0}
 
 -- the tables of a reading
 abbrev pub tables_in : Reading → List TableFile
@@ -65,7 +73,7 @@ pub record Finds (s : State) (found : Found) : Type 0 where
   pub next : IsNextFile found.store.listing found.store.version.next_file found.store.next_file
   pub listing : TellsListing s.device.told found.store.listing
   pub read : IsFoundBy s.device.told found
-  pub goes_on : GoesOnWith (continues s.mode s.footing) s.story found.point
+  pub goes_on : GoesOnWith (continues s.mode s.footing) s.story found.joined found.point
 
 abbrev pub FindsIn : State → Result Found OpenRefusal → Type 0
 FindsIn s (Ok found) = Finds s found
@@ -82,9 +90,10 @@ pub record OpenAnswers (s : State) (answer : Result Found OpenRefusal) (device :
   pub finds : FindsIn s answer
   pub quiet : IsQuiet s.device (fault_in (store_in answer)) device
 
-abbrev pub story_opened : Bool → Point → Story → Story
-story_opened true point story = story
-story_opened false point story = new_story point
+-- the batches in limbo that were found are published; what must not be lost stays as it was
+abbrev pub story_opened : Bool → ℕ → Point → Story → Story
+story_opened true joined point story = joined_story joined story
+story_opened false joined point story = new_story point
 
 abbrev pub ops_replayed : List Replayed → List (List Op)
 ops_replayed batches = map (λ (batch : Replayed). batch.ops) batches
@@ -105,7 +114,7 @@ opened options found s = record {
   footing = s.footing;
   options = options;
   mode = record s.mode { phase = Booting };
-  story = story_opened (continues s.mode s.footing) found.point s.story;
+  story = story_opened (continues s.mode s.footing) found.joined found.point s.story;
   segments = record { immutable = replayed_segments (ops_replayed found.store.batches.items) found.store.logs.items; active = no_batches };
   levels = found.levels;
   writing = record { waiting = []; outcomes = []; last_ticket = 0 };

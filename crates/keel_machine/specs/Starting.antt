@@ -6,10 +6,10 @@ use Rattle.keel_base.specs.declared.failure.Failure.{Failure}
 use Rattle.keel_handler.specs.Failures.{standing_severity}
 use Rattle.keel_machine.specs.declared.answers.Outcome.TheVariants as outcome
 use Rattle.keel_machine.specs.declared.answers.Start.{Start}
-use Rattle.keel_machine.specs.declared.answers.Start.TheVariants.{Nothing, Busy, Beyond, Cleared, Spent, Started}
+use Rattle.keel_machine.specs.declared.answers.Start.TheVariants.{Closing, Nothing, Busy, Beyond, Cleared, Spent, Started}
 use Rattle.keel_machine.specs.Admission.{standing, tickets_of_group}
 use Rattle.keel_machine.specs.Flushing.{is_work_stopped}
-use Rattle.keel_machine.specs.States.{State, Jobs, Slot}
+use Rattle.keel_machine.specs.States.{State, Jobs, Slot, is_closing}
 use Rattle.keel_machine.specs.Tests.{first_some, when}
 use Rattle.keel_machine.specs.WritingAfter.{settled}
 
@@ -39,7 +39,8 @@ is_number_spent jobs = nat_le LAST_NUMBER jobs.resume.number || (is_slot_spent j
 -- the first test that holds, in the order of the tests
 abbrev pub start_test : State → Option Start
 start_test s = first_some (
-    when (not (is_work_stopped s)) Nothing
+    when (is_closing s.mode.phase) Closing
+    ∷ when (not (is_work_stopped s)) Nothing
     ∷ when (is_resuming s) (Busy s.jobs.resume.number)
     ∷ beyond (severity s) (standing s)
     ∷ when (severity s == 1) Cleared

@@ -20,11 +20,12 @@ pub data Footing : Type 0 where
   Known : Footing
   Unknown : Footing
 
--- no store is open; one is whose boot hasn't cleared; or one is whose boot has
+-- no store is open; one is whose boot hasn't cleared; one is whose boot has; or one was closed and has its device still
 pub data Phase : Type 0 where
   Shut : Phase
   Booting : Phase
   Open : Phase
+  Closing : Phase
 
 -- how the story's device was left when a store was last open on it: there is no story yet, or none to build on; by a
 -- crash; or handed back without one
@@ -41,10 +42,15 @@ abbrev pub is_open : Phase → Bool
 is_open Shut = false
 is_open Booting = true
 is_open Open = true
+is_open Closing = true
 
 abbrev pub is_booting : Phase → Bool
 is_booting Booting = true
 is_booting _ = false
+
+abbrev pub is_closing : Phase → Bool
+is_closing Closing = true
+is_closing _ = false
 
 abbrev pub is_left : Leaving → Bool
 is_left Nothing = false
@@ -86,6 +92,10 @@ pub record IsPartOf (part story : Story) : Type 0 where
 -- the story that begins with a point
 abbrev pub new_story : Point → Story
 new_story start = record { start = start; log = []; limbo = []; floor = 0 }
+
+-- the story where so many of the batches in limbo were found, and are published from then on
+abbrev pub joined_story : ℕ → Story → Story
+joined_story count story = record story { log = story.log ++ take count story.limbo; limbo = drop count story.limbo }
 
 -- the story behind a crash that kept so many batches
 abbrev pub cut_story : ℕ → Story → Story

@@ -23,6 +23,7 @@ use Rattle.keel_machine.specs.declared.steps.JobStep.{JobStep}
 use Rattle.keel_machine.specs.declared.steps.ResumeStep.{ResumeStep}
 use Rattle.keel_machine.specs.declared.steps.WriteStep.{WriteStep}
 use Rattle.keel_machine.specs.Admission.{AdmitAnswers, admit_after, outcome_of, standing, without_outcome}
+use Rattle.keel_machine.specs.Closing.{CloseAnswers, close_after}
 use Rattle.keel_machine.specs.Crash.{CrashAnswers, crash_after}
 use Rattle.keel_machine.specs.Flushing.{FlushAnswers, flush_after}
 use Rattle.keel_machine.specs.Opening.{Found, OpenAnswers, open_after, finished}
@@ -54,6 +55,8 @@ pub data Event : Type 0 where
   Crashing : Pick → Option ℕ → Event
   -- a resume is asked for
   Starting : Start → Event
+  -- the store is closed, with so many tickets that had no outcome
+  ShuttingDown : ℕ → Event
   Finishing : Event
 
 -- the files of the directory with their sizes, in the order of their printed names
@@ -78,6 +81,7 @@ Answers s (TellingLevels view) device = (view ≡ levels_view s) × (device ≡ 
 Answers s (Arranging rule answer) device = ArrangeAnswers s rule answer device
 Answers s (Crashing pick kept) device = CrashAnswers s pick kept device
 Answers s (Starting start) device = StartAnswers s start × (device ≡ s.device)
+Answers s (ShuttingDown tickets) device = CloseAnswers s tickets × (device ≡ s.device)
 Answers s Finishing device = device ≡ s.device
 
 -- the state behind the call, but for the device
@@ -96,6 +100,7 @@ behind s (TellingLevels view) = s
 behind s (Arranging rule answer) = s
 behind s (Crashing pick kept) = crash_after s kept
 behind s (Starting start) = start_after s start
+behind s (ShuttingDown tickets) = close_after s
 behind s Finishing = finished s
 
 -- the state behind the call, with what the device then shows

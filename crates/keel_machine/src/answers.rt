@@ -9,6 +9,8 @@ pub enum Admit {
     Queued { ticket: u64 },
     /// This part of the batch has a length, a count or a weight outside the limits.
     BadSize { part: Part, length: u64 },
+    /// The store was closed.
+    Closing,
     /// The boot of this opening hasn't cleared.
     Booting,
     /// This failure stands, and nothing is written any more.
@@ -44,6 +46,8 @@ pub enum Outcome {
     Failed(Failure),
     /// This failure stood before its group was formed.
     Turned(Failure),
+    /// The store was closed before. A later opening may still show it.
+    Closed,
     /// The ticket was never given, or its outcome was taken.
     Unknown,
 }
@@ -51,6 +55,8 @@ pub enum Outcome {
 /// What became of a call that asks for a resume. Only `Cleared` and `Started` change anything.
 #[derive(Clone, Copy, Debug)]
 pub enum Start {
+    /// The store was closed.
+    Closing,
     /// Neither writes nor background work are stopped.
     Nothing,
     /// The boot or resume of this number was started already and isn't over.

@@ -1,6 +1,6 @@
 // Facts of the machine, each as the contract of a function.
 ghost use Rattle.keel_machine.specs.BootLength.{BootEnds};
-ghost use Rattle.keel_machine.specs.Laws.{FailureStops, FullQueueStops, LogFailureStops, ManifestFailureStops, OneCallAFlush, OneCallAStep, StoppedWorkRests, StopsAtTwo};
+ghost use Rattle.keel_machine.specs.Laws.{ClosingEnds, FailureStops, FullQueueStops, LogFailureStops, ManifestFailureStops, OneCallAFlush, OneCallAStep, StoppedWorkRests, StopsAtTwo};
 ghost use Rattle.keel_machine.specs.WorkedRows.{FirstBoot, FirstFlush, FirstPut, FirstResume, FullQueue, FullSegment, SecondPut};
 
 /// A write step makes one changing call of the device at most.
@@ -41,6 +41,11 @@ pub fn stopped_work_rests()
 /// While 64 batches wait, no further one is queued.
 pub fn full_queue_stops()
     ensures { FullQueueStops }
+{}
+
+/// Closing leaves no group, no job and no waiting ticket, and no batch is queued any more.
+pub fn closing_ends()
+    ensures { ClosingEnds }
 {}
 
 /// A boot or a resume none of whose steps fails, rests or wants memory clears: with ten calls, and for each table that it makes three and

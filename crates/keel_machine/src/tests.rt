@@ -10,6 +10,7 @@ fn the_laws_hold() {
     laws::one_call_a_flush();
     laws::stopped_work_rests();
     laws::full_queue_stops();
+    laws::closing_ends();
     laws::boot_ends();
     laws::first_boot();
     laws::first_put();
