@@ -23,11 +23,11 @@ use Rattle.keel_directory.specs.TableFiles.{TableFile, Opens, table_rows}
 use Rattle.keel_machine.specs.Admission.{stopping}
 use Rattle.keel_machine.specs.Reads.{BearsOut, rows_of, segment_rows, all_segments, contents}
 use Rattle.keel_machine.specs.Resuming.{batches_in}
-use Rattle.keel_machine.specs.States.{State, Footing, Known, Unknown, Phase, Shut, Booting, Open, Active, SegmentLog, Segment, is_open, is_left, entries_in, point_of}
+use Rattle.keel_machine.specs.States.{State, Footing, Known, Unknown, Phase, Shut, Booting, Open, Closing, Active, SegmentLog, Segment, is_open, is_left, entries_in, point_of}
 use Rattle.keel_recovery.specs.BootCalls.{BootKept, joined}
 use Rattle.keel_recovery.specs.Booting.{IsOldTable}
 use Rattle.keel_recovery.specs.Chains.{Chained, batches_of}
-use Rattle.keel_recovery.specs.Machine.{IsKept, KeptBy, IsCoveredBy, CoveredBears, HasLog, HoldsBy, AreFull}
+use Rattle.keel_recovery.specs.Machine.{Bears, IsKept, KeptBy, IsCoveredBy, CoveredBears, HasLog, HoldsBy, AreFull}
 use Rattle.keel_recovery.specs.Roots.{AreFirmTables, point_at}
 use Rattle.keel_recovery.proofs.Following.{batches_push}
 use Rattle.keel_recovery.proofs.Numbering.{folded_append}
@@ -35,12 +35,6 @@ use Rattle.keel_recovery.proofs.OpenTables.{said_known}
 use Rattle.keel_recovery.proofs.Rows.{map_folds, batch_rows_append}
 use Rattle.keel_recovery.proofs.Showing.{read_once}
 use Rattle.keel_draft.specs.Drafts.{batch_rows, count_ops}
-
--- what reads ask of the state of a device
-pub record Bears (state : Disk) (s : State) : Type 0 where
-  pub tables : AllByRecursion (λ (table : TableFile). Opens (image_read state) table.entry table) s.levels
-  pub said : AllByRecursion (IsAsSaid s.numbers.in_tables) s.levels
-  pub says : IsMapOf (rows_of s) (contents s)
 
 once_read : (state : Disk) → IsOneToOne state → AreNamedOnce (image_read state)
 once_read state one = read_once (length state.files) state.files (directory_read state) (read_own state one)
@@ -145,9 +139,10 @@ kept_bears state s h = by s.segments.active.log h.stored
 
 -- ---- by the phase
 
-bears_by : (phase : Phase) (left : Bool) (state : Disk) (s : State) → is_open phase ≡ true → KeptBy phase left state s → Bears state s
+pub bears_by : (phase : Phase) (left : Bool) (state : Disk) (s : State) → is_open phase ≡ true → KeptBy phase left state s → Bears state s
 bears_by Shut left state s opens h = cc
 bears_by Booting left state s opens h = boot_bears state s h.kept
+bears_by Closing left state s opens h = h.bears
 bears_by Open left state s opens h = ⊎_elim (λ kept. kept_bears state s kept) (λ taken. boot_bears state s taken.kept) h
 
 told_bears : (f : Footing) (o : Option Told) (s : State) → f ≡ Known → o ≡ s.device.told → is_open s.mode.phase ≡ true → IsCoveredBy f s.mode o s → BearsOut s

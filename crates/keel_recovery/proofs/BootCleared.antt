@@ -239,6 +239,7 @@ module _ (s : State) (running : Resumption) (state after : Disk) (one : IsOneToO
     log_is = ap (option_map new_log) parts.log_is;
     keeps = keeps_cleared kept.bound kept.old s.levels s.story next running.job after booting parts_after made.rising made.last_is gives none_waits m manifest_after current_after;
     uncut = booting.uncut;
+    listed = booting.listed;
     grows = grows_cleared kept.bound kept.old s.levels s.story next running.job after booting parts_after made.rising made.last_is gives none_waits m manifest_after current_after;
     reach = reach_cleared kept.bound kept.old s.levels s.story next running.job after booting parts_after made.rising made.last_is gives none_waits m manifest_after current_after;
     flushes = subst (λ (n : ℕ). HasFlush (way kept.bound kept.old s.levels s.story next running.job after booting parts_after made.rising made.last_is gives none_waits m manifest_after current_after)

@@ -24,6 +24,7 @@ use Rattle.keel_disk.specs.Sound.{IsOneToOne}
 use Rattle.keel_disk.proofs.Operating.{cut-append, find-linked_other, file_at-created, read-settled}
 use Rattle.keel_disk.proofs.Directories.{find-linked, operated_all-append}
 use Rattle.keel_directory.specs.TableFiles.{TableFile}
+use Rattle.keel_machine.specs.Opening.{tables_in}
 use Rattle.keel_machine.specs.States.{Story}
 use Rattle.keel_open.specs.NextFiles.{number_in}
 use Rattle.keel_machine.specs.Resuming.{cleared_story}
@@ -31,6 +32,7 @@ use Rattle.keel_recovery.specs.Booting.{below, IsMovedIn, IsOldIn, IsOldTable, I
 use Rattle.keel_recovery.specs.BootCalls.{IsUnmoved}
 use Rattle.keel_recovery.proofs.BootNames.{dropped_uncut, linked_below, none_below}
 use Rattle.keel_recovery.proofs.BootStands.{same_files}
+use Rattle.keel_recovery.proofs.Listing.{listed_stays, settled_listed}
 use Rattle.keel_disk.proofs.Settling.{settled_twice}
 
 nothing_left : (count : ℕ) → take {A = Operation} count [] ≡ []
@@ -192,6 +194,9 @@ module _ (bound : ℕ) (old : State) (levels : List TableFile) (story : Story) (
     tables = tables_after levels booting.tables;
     drawn = λ count file other is. ⊎_elim (λ before. omega (arith, more, booting.drawn before.0 file other before.1)) (λ new. subst (λ n. number_in n < next) (sym new.0) numbered) (created_found name state count file other is);
     read = read;
+    listed = listed_stays (Create name) (Ok tt) state (created name state) tt booting.listed refl;
+    read_within = booting.read_within;
+    read_steady = λ reading is. tables_after (tables_in reading) (booting.read_steady reading is);
   }
 
 -- ---- a file that was made since is changed
@@ -244,12 +249,15 @@ module _ (bound : ℕ) (old : State) (levels : List TableFile) (story : Story) (
     tables = all_unchanged levels booting.tables;
     drawn = booting.drawn;
     read = read;
+    listed = booting.listed;
+    read_within = booting.read_within;
+    read_steady = λ reading is. all_unchanged (tables_in reading) (booting.read_steady reading is);
   }
 
 -- ---- some operations get firm
 
 module _ (bound : ℕ) (old : State) (levels : List TableFile) (story : Story) (next_file kept : ℕ) (state : State) (one : IsOneToOne state) (booting : IsBooting bound old levels story next_file state)
-    (read : AllRead (settled_through kept state)) (tables : AllByRecursion (IsOldTable bound (settled_through kept state)) levels)
+    (read : AllRead (settled_through kept state)) (tables : (found : List TableFile) → AllByRecursion (IsOldTable bound state) found → AllByRecursion (IsOldTable bound (settled_through kept state)) found)
     (rolls : (count current : ℕ) → file_behind count Current (settled_through kept state) ≡ Some current → bound ≤ current → IsRoll count (cleared_story story) next_file (settled_through kept state)) where
   settled_files : (settled_through kept state).files ≡ state.files
   settled_files = same_files bound old levels story next_file state one booting kept
@@ -276,7 +284,10 @@ module _ (bound : ℕ) (old : State) (levels : List TableFile) (story : Story) (
     no_trash = λ count n file is newer. booting.no_trash (kept + count) n file (sym (later count (Trash n)) ∙ is) newer;
     logs_empty = λ count n file is newer. ap (λ (files : List File). (file_at file files).meant) settled_files ∙ booting.logs_empty (kept + count) n file (sym (later count (Log n)) ∙ is) newer;
     rolls = rolls;
-    tables = tables;
+    tables = tables levels booting.tables;
     drawn = λ count file name is. booting.drawn (kept + count) file name (sym (later count name) ∙ is);
     read = read;
+    listed = settled_listed kept state booting.listed;
+    read_within = booting.read_within;
+    read_steady = λ reading is. tables (tables_in reading) (booting.read_steady reading is);
   }

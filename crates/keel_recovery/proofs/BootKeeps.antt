@@ -47,6 +47,9 @@ module _ (bound : ℕ) (old : Disk) (levels : List TableFile) (story : Story) (n
     tables = booting.tables;
     drawn = λ count file name is. omega (arith, more, booting.drawn count file name is);
     read = booting.read;
+    listed = booting.listed;
+    read_within = booting.read_within;
+    read_steady = booting.read_steady;
   }
 
   -- a file that is being made is changed
@@ -100,7 +103,8 @@ module _ (bound : ℕ) (old : Disk) (levels : List TableFile) (story : Story) (n
     sync_dir_keeps step =
         let leaves = sync_dir_leaves state after failed_ step in
         let read = subst AllRead leaves.1 (all_read_stays SyncDir (as_answer failed_) state after one tt booting.read step) in
-        let tables = subst (λ s. AllByRecursion (IsOldTable bound s) levels) leaves.1 (old_tables_stay bound SyncDir (as_answer failed_) state after one (λ n. tt) step levels booting.tables) in
+        let tables : (found : List TableFile) → AllByRecursion (IsOldTable bound state) found → AllByRecursion (IsOldTable bound (settled_through leaves.0 state)) found =
+        λ found are. subst (λ s. AllByRecursion (IsOldTable bound s) found) leaves.1 (old_tables_stay bound SyncDir (as_answer failed_) state after one (λ n. tt) step found are) in
         let later : (count : ℕ) → file_behind count Current (settled_through leaves.0 state) ≡ file_behind (leaves.0 + count) Current state = λ count. ap (λ (s : Disk). find Current s.firm) (settled_twice leaves.0 count state) in
         let unmoved_then : IsUnmoved bound (settled_through leaves.0 state) = λ count current is newer. unmoved (leaves.0 + count) current (sym (later count) ∙ is) newer in
         subst (KeptOn bound old levels story next_file) (sym leaves.1) (record {

@@ -85,7 +85,7 @@ module _ (bound : ℕ) (old : Disk) (levels : List TableFile) (story : Story) (n
       subst (IsBooting bound old levels story next_file) (sym is)
       (kept_settled bound old levels story next_file k state one booting
       (subst AllRead is read)
-      (subst (λ (d : Disk). AllByRecursion (IsOldTable bound d) levels) is (old_tables_stay bound SyncDir (as_answer failed_) state after one (λ n. tt) step levels booting.tables))
+      (λ found are. subst (λ (d : Disk). AllByRecursion (IsOldTable bound d) found) is (old_tables_stay bound SyncDir (as_answer failed_) state after one (λ n. tt) step found are))
       (subst (λ (d : Disk). (count current : ℕ) → file_behind count Current d ≡ Some current → bound ≤ current → IsRoll count all_in next_file d) is rolls_after))
 
 module _ (s : State) (state after : Disk) (one : IsOneToOne state) (kept : BootKept s state) where

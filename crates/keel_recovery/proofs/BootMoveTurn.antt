@@ -19,19 +19,21 @@ use Rattle.keel_disk.proofs.Owning.{find-unlinked_same}
 use Rattle.keel_base.proofs.Names.{name_eq-true}
 use Rattle.keel_directory.specs.TableFiles.{TableFile}
 use Rattle.keel_machine.specs.Outside.{as_answer}
+use Rattle.keel_machine.specs.Opening.{tables_in}
 use Rattle.keel_machine.specs.States.{Story}
 use Rattle.keel_open.specs.NextFiles.{number_in}
 use Rattle.keel_machine.specs.Resuming.{cleared_story}
 use Rattle.keel_recovery.specs.Booting.{IsBooting, IsMovedIn, IsOldIn, IsRoll}
 use Rattle.keel_recovery.specs.BootCalls.{IsUnmoved}
 use Rattle.keel_recovery.proofs.BootFrame.{old_tables_stay}
+use Rattle.keel_recovery.proofs.Listing.{HasBeside, listed_stays}
 use Rattle.keel_recovery.proofs.BootMoving.{renamed, current_moved, moved_dir, dir_behind, found_before}
 
 some_none : {A P : Type 0} (x : A) → Some x ≡ None → P
 some_none x e = cc
 
 module _ (bound : ℕ) (old : Disk) (levels : List TableFile) (story : Story) (next_file : ℕ) (state : Disk) (one : IsOneToOne state) (booting : IsBooting bound old levels story next_file state) (unmoved : IsUnmoved bound state)
-    (m : ℕ) (held : (file : ℕ) × (file_of (Temp m) state ≡ Some file) × (bound ≤ file)) where
+    (m : ℕ) (held : (file : ℕ) × (file_of (Temp m) state ≡ Some file) × (bound ≤ file)) (manifest : (file : ℕ) × (file_of (Manifest m) state ≡ Some file)) where
   abbrev after : Disk
   after = renamed m state
 
@@ -40,6 +42,10 @@ module _ (bound : ℕ) (old : Disk) (levels : List TableFile) (story : Story) (n
 
   read_after : AllRead after
   read_after = all_read_stays (Rename (Temp m) Current) (as_answer None) state after one tt booting.read renamed_step
+
+  -- the manifest has the number of the temporary file
+  beside : HasBeside (Temp m) Current state
+  beside = record { name = Manifest m; file = manifest.0; present = manifest.1; not_from = refl; not_to = refl; over_from = omega arith; over_to = omega arith }
 
   -- CURRENT is moved in what is read
   moved_there : IsMovedIn bound (moved_dir m state)
@@ -94,4 +100,7 @@ module _ (bound : ℕ) (old : Disk) (levels : List TableFile) (story : Story) (n
     tables = old_tables_stay bound (Rename (Temp m) Current) (as_answer None) state after one (λ n. (refl, refl)) renamed_step levels booting.tables;
     drawn = drawn_after some;
     read = read_after;
+    listed = listed_stays (Rename (Temp m) Current) (as_answer None) state after beside booting.listed renamed_step;
+    read_within = booting.read_within;
+    read_steady = λ reading is. old_tables_stay bound (Rename (Temp m) Current) (as_answer None) state after one (λ n. (refl, refl)) renamed_step (tables_in reading) (booting.read_steady reading is);
   }

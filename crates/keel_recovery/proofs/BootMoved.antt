@@ -98,8 +98,11 @@ module _ (s : State) (running : Resumption) (state after : Disk) (one : IsOneToO
   held_temp : (file : ℕ) × (file_of (Temp m) state ≡ Some file) × (kept.bound ≤ file)
   held_temp = (temporary.file, temporary.present.named, temporary.newer)
 
+  held_manifest : (file : ℕ) × (file_of (Manifest m) state ≡ Some file)
+  held_manifest = (manifest.file, manifest.present.named)
+
   step_there : DiskStep state (Rename (Temp m) Current) (as_answer None) there
-  step_there = renamed_step kept.bound kept.old s.levels s.story next state one kept.booting unmoved m held_temp
+  step_there = renamed_step kept.bound kept.old s.levels s.story next state one kept.booting unmoved m held_temp held_manifest
 
   logs_there : AreNewLogs kept.bound parts.log there
   logs_there count n file over is = let before = found_before m state count file (Log n) refl refl is in parts.logs before.0 n file over before.1
@@ -150,7 +153,7 @@ module _ (s : State) (running : Resumption) (state after : Disk) (one : IsOneToO
       ⊎_elim (λ same. absurd (unmoved count current (subst (λ d. find Current d ≡ Some current) same is) newer)) (λ all. all_moved count all) (dir_behind m state count)
 
   booting_there : IsBooting kept.bound kept.old s.levels s.story next there
-  booting_there = kept_moved kept.bound kept.old s.levels s.story next state one kept.booting unmoved m held_temp kept.numbered rolls_there
+  booting_there = kept_moved kept.bound kept.old s.levels s.story next state one kept.booting unmoved m held_temp held_manifest kept.numbered rolls_there
 
   -- CURRENT as read is the new file
   current_there : IsMade kept.bound Current (current_of m) there

@@ -1,5 +1,5 @@
--- A device at rest that was just opened keeps what a booting store keeps.
-use Rattle.std.proofs.Common.{◌≡◌, ℕ, ◌<◌, true, false, List, [], ◌∷◌, length, Option, Some, None, Result, Ok, Err, refl, sym, ap, subst, ◌∙◌, if◌then◌else◌}
+-- The tables of a reading open, and those of a device at rest are there whatever a crash does.
+use Rattle.std.proofs.Common.{◌≡◌, ℕ, true, false, List, [], ◌∷◌, length, Option, Some, None, Result, Ok, Err, refl, sym, ap, subst, ◌∙◌, if◌then◌else◌}
 use Rattle.std.specs.List.{AllByRecursion}
 use Rattle.keel_base.specs.declared.file_name.FileName.{FileName}
 use Rattle.keel_base.specs.declared.file_name.FileName.TheVariants.{Current, Table}
@@ -9,11 +9,10 @@ use Rattle.keel_disk.specs.declared.state.File.{File}
 use Rattle.keel_disk.specs.declared.state.Operation.{Operation}
 use Rattle.keel_disk.specs.Directory.{Named, find, operated_all}
 use Rattle.keel_disk.specs.State.{State, file_at, directory_read, has_waiting_cut}
-use Rattle.keel_disk.specs.Steady.{IsHeld, file_behind}
+use Rattle.keel_disk.specs.Steady.{IsHeld}
 use Rattle.keel_disk.specs.Image.{AllFirm}
 use Rattle.keel_disk.specs.Plain.{bytes_read, image_read}
 use Rattle.keel_disk.specs.Sound.{IsAtRest}
-use Rattle.keel_disk.proofs.Meaning.{rest_reads}
 use Rattle.keel_disk.proofs.Operating.{is_below}
 use Rattle.keel_edit.specs.declared.edit.Added.{Added}
 use Rattle.keel_directory.specs.Reading.{Reading, StoreRead, new, held, refused, IsReading, FoundBy, ManifestOf, VersionOf, TablesOf, LogsOf, PointOf, WithCurrent, first_used, without_current}
@@ -22,12 +21,8 @@ use Rattle.keel_directory.specs.Replays.{Replay}
 use Rattle.keel_version.specs.Tables.{Contents}
 use Rattle.keel_directory.specs.TableFiles.{TableFile, TablesAre, TablesGive, AllOpen, Opens, bytes_of, open_sized, refusal_of}
 use Rattle.keel_machine.specs.Opening.{tables_in}
-use Rattle.keel_machine.specs.States.{Story}
-use Rattle.keel_open.specs.NextFiles.{number_in}
-use Rattle.keel_recovery.specs.Booting.{IsOldTable, IsBooting}
-use Rattle.keel_recovery.specs.Standing.{Stands}
+use Rattle.keel_recovery.specs.Booting.{IsOldTable}
 use Rattle.keel_recovery.proofs.BootNames.{behind_none}
-use Rattle.keel_recovery.proofs.BootTaken.{just_taken}
 
 some_none : {A P : Type 0} (x : A) → Some x ≡ None → P
 some_none x e = cc
@@ -135,11 +130,7 @@ module _ (state : State) (rest : IsAtRest state) where
         opens = opens.opens;
       }
 
-  old_tables : (levels : List TableFile) → AllByRecursion (λ (table : TableFile). Opens (image_read state) table.entry table) levels → AllByRecursion (IsOldTable total state) levels
+  -- the tables of a reading are there whatever operations are done
+  pub old_tables : (levels : List TableFile) → AllByRecursion (λ (table : TableFile). Opens (image_read state) table.entry table) levels → AllByRecursion (IsOldTable total state) levels
   old_tables [] opens = tt
   old_tables (table ∷ levels) opens = (old_table table opens.0, old_tables levels opens.1)
-
-  pub just_opened : (levels : List TableFile) (story : Story) (next_file : ℕ) → Stands state story → AllByRecursion (λ (table : TableFile). Opens (image_read state) table.entry table) levels
-      → ((count file : ℕ) (name : FileName) → file_behind count name state ≡ Some file → number_in name < next_file) → IsBooting total state levels story next_file state
-  just_opened levels story next_file stands opens drawn =
-      just_taken levels story next_file state rest.sound.one_to_one (λ file. ap (has_waiting_cut file) none_waits) stands (rest_reads state rest) (old_tables levels opens) drawn

@@ -51,7 +51,7 @@ module _ (bound : ℕ) (old : State) (levels : List TableFile) (story : Story) (
   all_in = cleared_story story
 
   -- the tables of a roll have all that is published
-  holds : HoldStory (length story.log) [] all_in state
+  pub holds : HoldStory (length story.log) [] all_in state
   holds = record {
     in_turn = tt;
     batches_are = ap (drop (length story.log)) (append-nil story.log) ∙ all_dropped story.log;
@@ -61,7 +61,7 @@ module _ (bound : ℕ) (old : State) (levels : List TableFile) (story : Story) (
     chained = tt;
   }
 
-  roots : (count : ℕ) (roll : IsRoll count all_in next_file state) → AreRoots roll.way [] all_in next_file state
+  pub roots : (count : ℕ) (roll : IsRoll count all_in next_file state) → AreRoots roll.way [] all_in next_file state
   roots count roll number least most =
       subst (λ edits. IsRoot edits [] all_in next_file state) (sym (one_taken number roll.way.edits roll.one (omega (arith, roll.is_way.some, least)))) roll.root
 

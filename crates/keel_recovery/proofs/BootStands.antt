@@ -138,14 +138,18 @@ module _ (bound : ℕ) (old : State) (levels : List TableFile) (story : Story) (
         (names_of state.files (below bound (directory count)) (kept bound (directory count) image) (shown_kept bound state.files (directory count) image are))
         (found_below bound Current file (directory count) at older) none)
 
+    pub old_reading : (image : Named (List ℕ)) → AreShown state.files (directory count) image → (reading : Reading) → IsSoundReading reading → IsReading (kept bound (directory count) image) reading → IsReading image reading
+    old_reading image are reading sound is =
+        reads_over bound (length state.files) (Bare before) state.files (directory count) image (one count) are (unneeded_each count before) reading sound is
+        (bare_where image (find Current (directory count)) refl older are)
+
     pub old_reads : (image : Named (List ℕ)) (least : ℕ) → AreShown state.files (directory count) image → ReadsIn ReadsAs story.start story.log story.limbo least (kept bound (directory count) image)
         → ReadsIn ReadsAs story.start story.log story.limbo least image
     old_reads image least are reads = (
       reads.0,
       record {
         reading = reads.1.reading;
-        is_read = reads_over bound (length state.files) (Bare before) state.files (directory count) image (one count) are (unneeded_each count before) reads.1.reading reads.1.sound reads.1.is_read
-            (bare_where image (find Current (directory count)) refl older are);
+        is_read = old_reading image are reads.1.reading reads.1.sound reads.1.is_read;
         sound = reads.1.sound;
         has = reads.1.has;
       },
@@ -237,11 +241,38 @@ module _ (bound : ℕ) (old : State) (levels : List TableFile) (story : Story) (
         ∙ (ap (λ (files : List File). bytes_read files (below bound all_done)) (sym booting.first)
         ∙ ap (bytes_read old.files) (ap (below bound) whole ∙ same)))
 
+    -- so its reading is the one of then
+    pub reading_now : (reading : Reading) → IsSoundReading reading → IsReading (image_read old) reading → IsReading (image_read state) reading
+    reading_now reading sound is =
+        subst (λ d. IsReading (bytes_read state.files d) reading) whole
+        (old_reading bound old levels story next_file state one booting (length state.waiting) as_then older (bytes_read state.files all_done) read_files reading sound
+        (subst (λ image. IsReading image reading) (sym read_then) is))
+
     old_now : ReadsIn ReadsAs story.start story.log story.limbo (length story.log) (image_read state)
     old_now =
         subst (λ d. ReadsIn ReadsAs story.start story.log story.limbo (length story.log) (bytes_read state.files d)) whole
         (old_reads bound old levels story next_file state one booting (length state.waiting) as_then older (bytes_read state.files all_done) (length story.log) read_files
         (subst (λ image. ReadsIn ReadsAs story.start story.log story.limbo (length story.log) image) (sym read_then) booting.stands.now))
+
+  -- the directory as it is read has CURRENT moved, or its reading is the one of then
+  pub by_reading : {P : Type 0} → ((file : ℕ) → find Current all_done ≡ Some file → bound ≤ file → P)
+      → (((reading : Reading) → IsSoundReading reading → IsReading (image_read old) reading → IsReading (image_read state) reading) → P) → P
+  by_reading {P} moved_one then_one = at (find Current all_done) refl
+    where
+      at : (current : Option ℕ) → find Current all_done ≡ current → P
+      at current is =
+          elim (is_newer bound old levels story next_file state one booting current)
+          as (λ b. is_newer bound old levels story next_file state one booting current ≡ b → P) [
+            | true ↦ λ newer.
+                let file = newer_file bound old levels story next_file state one booting current newer in
+                moved_one file.0 (is ∙ file.1) file.2
+            | false ↦ λ older.
+                let not = subst (IsOlder bound old levels story next_file state one booting) (sym is) (older_one bound old levels story next_file state one booting current older) in
+                elim booting.shows_read [
+                  | inl moved ↦ absurd (not_moved bound old levels story next_file state one booting all_done not (subst (IsMovedIn bound) (sym whole) moved))
+                  | inr same ↦ then_one (reading_now same not)
+                ]
+          ] refl
 
   module _ (rolls_now : IsRoll (length state.waiting) (cleared_story story) next_file state → ReadsIn ReadsAs story.start story.log story.limbo (length story.log) (image_read state)) where
     at_read : (current : Option ℕ) → find Current all_done ≡ current → ReadsIn ReadsAs story.start story.log story.limbo (length story.log) (image_read state)

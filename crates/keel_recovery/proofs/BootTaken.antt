@@ -5,7 +5,7 @@ use Rattle.keel_base.specs.declared.file_name.FileName.{FileName}
 use Rattle.keel_base.specs.declared.file_name.FileName.TheVariants.{Current, Log, Table, Trash}
 use Rattle.keel_disk.specs.Directory.{Named, find}
 use Rattle.keel_disk.specs.State.{State as Disk, directory_read, settled_through}
-use Rattle.keel_disk.specs.Steady.{AllRead, file_behind}
+use Rattle.keel_disk.specs.Steady.{CutsExist, file_behind}
 use Rattle.keel_disk.specs.Sound.{IsOneToOne}
 use Rattle.keel_disk.proofs.Operating.{is_below}
 use Rattle.keel_disk.proofs.Steadily.{read_own}
@@ -15,11 +15,11 @@ use Rattle.keel_edit.specs.declared.edit.Added.{Added}
 use Rattle.keel_machine.specs.Resuming.{AreTables, all_closed, closed_of, job_begun, taken_over}
 use Rattle.keel_machine.specs.States.{State, Active, Resumption, Segment, Segments, Story, entries_in, no_batches}
 use Rattle.keel_open.specs.NextFiles.{number_in}
-use Rattle.keel_recovery.specs.Booting.{NoCuts, IsBooting, IsOldTable}
+use Rattle.keel_recovery.specs.Booting.{IsBooting, IsOldTable}
 use Rattle.keel_recovery.specs.BootCalls.{AreOver, BootKept, IsUnmoved, RunsSo}
-use Rattle.keel_recovery.specs.Standing.{Stands}
+use Rattle.keel_recovery.specs.Leaving.{IsLeft}
 use Rattle.keel_recovery.proofs.BootNames.{all_below, none_below}
-use Rattle.keel_recovery.proofs.BootRolls.{booting_stands}
+use Rattle.keel_recovery.proofs.Left.{boot_left, older_still}
 
 some_none : {A P : Type 0} (x : A) → Some x ≡ None → P
 some_none x e = cc
@@ -31,33 +31,32 @@ none_newer state one count file name is newer = absurd (omega (arith, newer, is_
 pub taken_unmoved : (state : Disk) → IsOneToOne state → IsUnmoved (length state.files) state
 taken_unmoved state one count current is newer = none_newer state one count current Current is newer
 
--- a device that stands for a story is one that a job may begin with
-pub just_taken : (levels : List TableFile) (story : Story) (next_file : ℕ) (state : Disk) → IsOneToOne state → NoCuts state → Stands state story → AllRead state → AllByRecursion (IsOldTable (length state.files) state) levels
+-- a device that may be left is one that a job may begin with
+pub just_taken : (levels : List TableFile) (story : Story) (next_file : ℕ) (state : Disk) → IsLeft state story → AllByRecursion (IsOldTable (length state.files) state) levels
     → ((count file : ℕ) (name : FileName) → file_behind count name state ≡ Some file → number_in name < next_file) → IsBooting (length state.files) state levels story next_file state
-just_taken levels story next_file state one uncut stands read tables drawn = record {
-  within = omega arith;
-  first = sym (take_all (length state.files) state.files (omega arith));
-  stands = stands;
-  old_uncut = uncut;
-  uncut = uncut;
-  shows = λ count. inr (record { before = count; same = all_below (length state.files) (settled_through count state).firm (one count) });
-  shows_read = inr (all_below (length state.files) (directory_read state) (read_own state one));
-  no_table = λ before none count n file is newer. none_newer state one count file (Table n) is newer;
-  no_trash = λ count n file is newer. none_newer state one count file (Trash n) is newer;
-  logs_empty = λ count n file is newer. none_newer state one count file (Log n) is newer;
-  rolls = λ count current is newer. none_newer state one count current Current is newer;
-  tables = tables;
-  drawn = drawn;
-  read = read;
-}
+just_taken levels story next_file state left tables drawn =
+    let one = left.one_to_one in
+    record {
+      within = omega arith;
+      first = sym (take_all (length state.files) state.files (omega arith));
+      stands = left.stands;
+      old_uncut = left.uncut;
+      uncut = left.uncut;
+      shows = λ count. inr (record { before = count; same = all_below (length state.files) (settled_through count state).firm (one count) });
+      shows_read = inr (all_below (length state.files) (directory_read state) (read_own state one));
+      no_table = λ before none count n file is newer. none_newer state one count file (Table n) is newer;
+      no_trash = λ count n file is newer. none_newer state one count file (Trash n) is newer;
+      logs_empty = λ count n file is newer. none_newer state one count file (Log n) is newer;
+      rolls = λ count current is newer. none_newer state one count current Current is newer;
+      tables = tables;
+      drawn = drawn;
+      read = left.read;
+      listed = left.listed;
+      read_within = left.within;
+      read_steady = left.steady;
+    }
 
 -- ---- a job begins anew
-
--- older tables are older than more files
-older_still : (bound more : ℕ) (state : Disk) (tables : List TableFile) → bound ≤ more → AllByRecursion (IsOldTable bound state) tables → AllByRecursion (IsOldTable more state) tables
-older_still bound more state [] most are = tt
-older_still bound more state (table ∷ tables) most are =
-    (record { file = are.0.file; steady = are.0.steady; old = omega (arith, are.0.old, most); held = are.0.held; opens = are.0.opens }, older_still bound more state tables most are.1)
 
 -- a directory without CURRENT is one that an older job began with
 bare_then : (s : State) (state : Disk) (kept : BootKept s state) (count : ℕ) → file_behind count Current state ≡ None → s.segments.immutable ≡ []
@@ -67,12 +66,11 @@ bare_then s state kept count none = elim (kept.booting.shows count) [
 ]
 
 -- where no job runs, the next one begins with the device as it is
-pub rebased : (s : State) (state : Disk) → IsOneToOne state → BootKept s state → s.jobs.resume.running ≡ None → BootKept s state
-rebased s state one kept idle = record {
+pub rebased : (s : State) (state : Disk) → IsOneToOne state → CutsExist state → BootKept s state → s.jobs.resume.running ≡ None → BootKept s state
+rebased s state one cuts kept idle = record {
   bound = length state.files;
   old = state;
-  booting = just_taken s.levels s.story s.numbers.next_file state one kept.booting.uncut
-      (booting_stands kept.bound kept.old s.levels s.story s.numbers.next_file state one kept.floor_within kept.booting) kept.booting.read
+  booting = just_taken s.levels s.story s.numbers.next_file state (boot_left state s one cuts kept)
       (older_still kept.bound (length state.files) state s.levels kept.booting.within kept.booting.tables) kept.booting.drawn;
   floor_within = kept.floor_within;
   numbered = kept.numbered;
@@ -124,9 +122,9 @@ taken_same s none = ap (λ (segments : Segments). record s { segments = segments
         ∙ (ap (λ (immutable : List Segment). record { immutable = immutable; active = no_batches }) (append-nil s.segments.immutable)
         ∙ ap (λ (active : Active). record { immutable = s.segments.immutable; active = active }) (sym none))
 
-pub begins_anew : (s : State) (state : Disk) (drafts : List Draft) → IsOneToOne state → BootKept s state → s.jobs.resume.running ≡ None → AreTables (taken_over s) drafts → BootKept (job_begun drafts (taken_over s)) state
+pub begins_anew : (s : State) (state : Disk) (drafts : List Draft) → IsOneToOne state → CutsExist state → BootKept s state → s.jobs.resume.running ≡ None → AreTables (taken_over s) drafts → BootKept (job_begun drafts (taken_over s)) state
 unfolding rebased
-begins_anew s state drafts one kept idle are =
+begins_anew s state drafts one cuts kept idle are =
     let same = taken_same s kept.none_active in
     subst (λ (t : State). BootKept (job_begun drafts t) state) (sym same)
-    (job_begins s state drafts (rebased s state one kept idle) (taken_unmoved state one) (subst (λ (t : State). AreTables t drafts) same are))
+    (job_begins s state drafts (rebased s state one cuts kept idle) (taken_unmoved state one) (subst (λ (t : State). AreTables t drafts) same are))

@@ -31,6 +31,7 @@ clear_kept job s device state one cuts numbered waits unstarted none_runs none_f
   cuts = cuts;
   numbered = numbered;
   uncut = h.uncut;
+  listed = h.listed;
   none_boots = refl;
   calm = λ started. absurd (never (sym started ∙ unstarted));
   waits = waits;

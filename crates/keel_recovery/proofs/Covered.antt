@@ -9,7 +9,7 @@ use Rattle.keel_disk.specs.Seen.{Calls, Seen}
 use Rattle.keel_machine.specs.declared.answers.Outcome.{Outcome}
 use Rattle.keel_machine.specs.Crash.{has_story}
 use Rattle.keel_machine.specs.Outside.{as_answer}
-use Rattle.keel_machine.specs.States.{State, Footing, Known, Unknown, Phase, Shut, Booting, Open, Mode, is_open, is_left, unopened, Resumption, with_device}
+use Rattle.keel_machine.specs.States.{State, Footing, Known, Unknown, Phase, Shut, Booting, Open, Closing, Mode, is_open, is_left, unopened, Resumption, with_device}
 use Rattle.keel_recovery.specs.BootCalls.{BootKept, RunsSo}
 use Rattle.keel_recovery.specs.Machine.{RestsIn, StandsIn, KeptBy, IsCoveredBy, IsCovered, CoveredStands, StartsCovered}
 use Rattle.keel_recovery.specs.Standing.{Stands}
@@ -21,6 +21,7 @@ kept_by_stands : (phase : Phase) (left : Bool) (told : Told) (s : State) → (is
 kept_by_stands Shut false told s begun h = cc
 kept_by_stands Shut true told s begun h = h.stands
 kept_by_stands Booting left told s begun h = booting_store_stands told.state s h
+kept_by_stands Closing left told s begun h = h.left.stands
 kept_by_stands Open left told s begun h = open_stands told.state s h
 
 stands_by : (f : Footing) (told : Option Told) (s : State) → f ≡ Known → has_story s.mode ≡ true → IsCoveredBy f s.mode told s → StandsIn told s.story
@@ -103,10 +104,19 @@ same_kept : (phase : Phase) (left : Bool) (state : Disk) (s : State) (device : S
 same_kept Shut false state s device outcomes h = h
 same_kept Shut true state s device outcomes h = h
 same_kept Booting left state s device outcomes h = record { one_to_one = h.one_to_one; cuts = h.cuts; kept = same_boot state s device outcomes h.kept; none_waits = h.none_waits }
+same_kept Closing left state s device outcomes h = record {
+  left = h.left;
+  bears = record { tables = h.bears.tables; said = h.bears.said; says = h.bears.says };
+  none_waits = h.none_waits;
+  no_group = h.no_group;
+  no_boot = h.no_boot;
+  unstarted = h.unstarted;
+}
 same_kept Open left state s device outcomes (inl h) = inl (record {
   one_to_one = h.one_to_one;
   cuts = h.cuts;
   uncut = h.uncut;
+  listed = h.listed;
   numbered = h.numbered;
   none_boots = h.none_boots;
   calm = λ started. let calm = h.calm started in record { no_group = calm.no_group; no_flush = calm.no_flush; stopped = calm.stopped };

@@ -12,14 +12,16 @@ use Rattle.keel_disk.specs.Told.{Told, Crashes, CrashedTo}
 use Rattle.keel_disk.specs.declared.rule.Pick.{Pick}
 use Rattle.keel_disk.specs.Seen.{Seen}
 use Rattle.keel_machine.specs.Crash.{has_story, LeavesPlain, IsPrefix, LeavesOf, Leaves, CrashAnswers, mode_crashed, crash_after}
-use Rattle.keel_machine.specs.States.{State, Footing, Known, Unknown, Phase, Shut, Booting, Open, Nothing, Crashed, is_open, is_left, Story, cut_story, point_of, with_device}
+use Rattle.keel_machine.specs.States.{State, Footing, Known, Unknown, Phase, Shut, Booting, Open, Closing, Nothing, Crashed, is_open, is_left, Story, cut_story, point_of, with_device}
 use Rattle.keel_directory.specs.Standing.{ReadsAs}
-use Rattle.keel_recovery.specs.Machine.{IsFirst, IsLeft, KeptBy, IsCoveredBy, IsCovered, CrashTurns}
+use Rattle.keel_recovery.specs.Leaving.{IsLeft}
+use Rattle.keel_recovery.specs.Machine.{IsFirst, KeptBy, IsCoveredBy, IsCovered, CrashTurns}
 use Rattle.keel_recovery.specs.Standing.{ReadsIn, Stands}
 use Rattle.keel_recovery.proofs.Kept.{open_one, open_stands, booting_store_stands}
 use Rattle.keel_disk.proofs.Resting.{rest_has_one}
 use Rattle.keel_directory.specs.Reading.{IsReading}
 use Rattle.keel_recovery.proofs.Crashed.{reading_leaves, read_restarted}
+use Rattle.keel_recovery.proofs.LeftAtRest.{rest_left}
 use Rattle.keel_recovery.proofs.Resting.{rest_stands}
 use Rattle.keel_recovery.proofs.Restarted.{rests_behind}
 
@@ -37,11 +39,7 @@ prefix_left state count story rest is =
       is.reads,
       record { count = count; enough = within; within = omega (arith, size); point_is = ap (fold_batches story.start) (sym whole) },
     ) in
-    record {
-      at_rest = rest;
-      after_crash = record { none_in_limbo = refl; all_stay = sym size };
-      stands = rest_stands state cut rest (read count (omega arith)) (read (length (take count all)) (omega (arith, size)));
-    }
+    rest_left state cut rest (omega (arith, size)) (rest_stands state cut rest (read count (omega arith)) (read (length (take count all)) (omega (arith, size))))
 
 plain_rests : (before after : Told) → IsOneToOne before.state → LeavesPlain before after → IsAtRest after.state
 plain_rests before after one left = subst IsAtRest (sym left.leaves) (rests_behind before.state left.image one (left.plain.0, left.plain.1.0))
@@ -61,8 +59,9 @@ crash_kept : (phase : Phase) (left : Bool) (count : ℕ) (s : State) (before aft
     → KeptBy phase left before.state s
     → KeptBy Shut (is_left (if is_open phase || left then Crashed else Nothing)) after.state (with_device device (crash_after s (Some count)))
 crash_kept Shut false count s before after device plain of h = first_again before after h plain
-crash_kept Shut true count s before after device plain of h = prefix_left after.state count s.story (plain_rests before after h.at_rest.sound.one_to_one plain) of
+crash_kept Shut true count s before after device plain of h = prefix_left after.state count s.story (plain_rests before after h.one_to_one plain) of
 crash_kept Booting left count s before after device plain of h = prefix_left after.state count s.story (plain_rests before after h.one_to_one plain) of
+crash_kept Closing left count s before after device plain of h = prefix_left after.state count s.story (plain_rests before after h.left.one_to_one plain) of
 crash_kept Open left count s before after device plain of h = prefix_left after.state count s.story (plain_rests before after (open_one before.state s h) plain) of
 
 crash_by : (f : Footing) (before after : Option Told) (kept : Option ℕ) (s : State) (device : Seen) → f ≡ s.footing → Leaves f s.mode s.story before kept after
@@ -98,8 +97,9 @@ stands_prefix before story image one stands plain =
 left_of : (phase : Phase) (left : Bool) (s : State) (before : Told) (image : Named (List ℕ)) → KeptBy phase left before.state s → PlainImage before.state image
     → (count : ℕ) × LeavesOf (is_open phase || left) count s.story (image_read (restarted image))
 left_of Shut false s before image h plain = (0, tt)
-left_of Shut true s before image h plain = stands_prefix before.state s.story image h.at_rest.sound.one_to_one h.stands plain
+left_of Shut true s before image h plain = stands_prefix before.state s.story image h.one_to_one h.stands plain
 left_of Booting left s before image h plain = stands_prefix before.state s.story image h.one_to_one (booting_store_stands before.state s h) plain
+left_of Closing left s before image h plain = stands_prefix before.state s.story image h.left.one_to_one h.left.stands plain
 left_of Open left s before image h plain = stands_prefix before.state s.story image (open_one before.state s h) (open_stands before.state s h) plain
 
 known_left : (s : State) (before after : Told) → KeptBy s.mode.phase (is_left s.mode.left) before.state s → CrashedTo before after

@@ -15,7 +15,7 @@ use Rattle.keel_machine.specs.declared.steps.JobStep.{JobStep}
 use Rattle.keel_machine.specs.declared.steps.JobStep.TheVariants as step
 use Rattle.keel_machine.specs.Admission.{standing, stopping}
 use Rattle.keel_machine.specs.Flushing.{FlushAnswers, IsDraftFor, MadeCall, Makes, acts_of, call_done, call_failed, cancelled, first_done, first_failed, flush_after, flush_done, flush_failed, flush_ready, is_file_spent, is_start_spent, may_flush, started_or, writes}
-use Rattle.keel_machine.specs.States.{State, Phase, Shut, Booting, Open, Mode, Resumption, Slot, Story, Writing, is_left, point_of, with_device}
+use Rattle.keel_machine.specs.States.{State, Phase, Shut, Booting, Open, Closing, Mode, Resumption, Slot, Story, Writing, is_left, point_of, with_device}
 use Rattle.keel_machine.specs.Tests.{differing, first_some, when}
 use Rattle.keel_machine.proofs.FirstTests.{none_later, none_of, none_when}
 use Rattle.keel_recovery.specs.Machine.{IsCovered, IsKept, IsStored, KeptBy}
@@ -23,6 +23,7 @@ use Rattle.keel_recovery.proofs.Covered.{as_it_is, call_keeps}
 use Rattle.keel_recovery.proofs.FlushStored.{begun_stored, flush_done_stored, flush_failed_stored}
 use Rattle.keel_batch.specs.Batches.{AreBatches}
 use Rattle.keel_recovery.specs.Waiting.{ops_waiting}
+use Rattle.keel_recovery.proofs.Listing.{TakesNone, listed_stays}
 use Rattle.keel_recovery.proofs.NoCuts.{CutsNothing, no_cuts_stay}
 use Rattle.keel_recovery.proofs.Ordering.{went_well, went_wrong}
 
@@ -53,6 +54,10 @@ kept_written Shut left state n is h = absurd (never is)
     never : false ≡ true → ⊥
     never e = cc
 kept_written Booting left state n is h = absurd (never is)
+  where
+    never : false ≡ true → ⊥
+    never e = cc
+kept_written Closing left state n is h = absurd (never is)
   where
     never : false ≡ true → ⊥
     never e = cc
@@ -161,11 +166,23 @@ module _ (s : State) (draft : Draft) (held : Option ℕ) (job : Job) (act : Act)
       by AppendEdit = tt
       by SyncManifest = tt
 
+  takes_none : (state : Disk) → TakesNone (change_of job at.numbers.next_file at.numbers.manifest act) state
+  takes_none state = by act
+    where
+      by : (a : Act) → TakesNone (change_of job at.numbers.next_file at.numbers.manifest a) state
+      by MakeTable = tt
+      by (AddPiece bytes) = tt
+      by SyncTable = tt
+      by SyncName = tt
+      by AppendEdit = tt
+      by SyncManifest = tt
+
   pub ready_kept : (state : Disk) → IsKept state s → IsKept state at
   ready_kept state h = record {
     one_to_one = h.one_to_one;
     cuts = h.cuts;
     uncut = h.uncut;
+    listed = h.listed;
     numbered = subst (λ n. 1 ≤ n) (sym (ap (λ n. n.next_file) same_numbers)) h.numbered;
     calm = λ started. not_stopped (h.calm (sym (same_ready s.jobs.flush.running).started ∙ started)).stopped;
     waits = waits_on s at (same_ready s.jobs.flush.running) h.waits;
@@ -197,6 +214,7 @@ module _ (s : State) (draft : Draft) (held : Option ℕ) (job : Job) (act : Act)
     one_to_one = one_stays (change_of job at.numbers.next_file at.numbers.manifest act) went_well before behind (gives_names h.numbered) h.one_to_one step;
     cuts = cuts_stay (change_of job at.numbers.next_file at.numbers.manifest act) went_well before behind h.one_to_one h.cuts step;
     uncut = no_cuts_stay (change_of job at.numbers.next_file at.numbers.manifest act) went_well before behind cuts_nothing h.uncut step;
+    listed = listed_stays (change_of job at.numbers.next_file at.numbers.manifest act) went_well before behind (takes_none before) h.listed step;
     numbered = omega (arith, h.numbered, files_done (left_of job));
     calm = λ started. not_running (h.calm (sym (acts_done (left_of job)).started ∙ started)).no_flush;
     waits = waits_on at _ (acts_done (left_of job)) h.waits;
@@ -214,6 +232,7 @@ module _ (s : State) (draft : Draft) (held : Option ℕ) (job : Job) (act : Act)
     one_to_one = one_stays (change_of job at.numbers.next_file at.numbers.manifest act) (went_wrong fault) before behind (gives_names h.numbered) h.one_to_one step;
     cuts = cuts_stay (change_of job at.numbers.next_file at.numbers.manifest act) (went_wrong fault) before behind h.one_to_one h.cuts step;
     uncut = no_cuts_stay (change_of job at.numbers.next_file at.numbers.manifest act) (went_wrong fault) before behind cuts_nothing h.uncut step;
+    listed = listed_stays (change_of job at.numbers.next_file at.numbers.manifest act) (went_wrong fault) before behind (takes_none before) h.listed step;
     numbered = omega (arith, h.numbered, files_failed (left_of job));
     calm = λ started. not_running (h.calm (sym (acts_failed (left_of job) (failure_of act fault)).started ∙ started)).no_flush;
     waits = waits_on at _ (acts_failed (left_of job) (failure_of act fault)) h.waits;
@@ -239,6 +258,7 @@ module _ (s : State) (draft : Draft) (held : Option ℕ) (job : Job) (act : Act)
   pub while_open : (phase : Phase) (left : Bool) (state : Disk) → writes phase ≡ true → KeptBy phase left state s → IsKept state s
   while_open Shut left state is h = cc
   while_open Booting left state is h = cc
+  while_open Closing left state is h = cc
   while_open Open left state is (inl h) = h
   while_open Open left state is (inr h) = not_stopped h.stopped
 
@@ -250,6 +270,7 @@ module _ (s : State) (draft : Draft) (held : Option ℕ) (job : Job) (act : Act)
     one_to_one = h.one_to_one;
     cuts = h.cuts;
     uncut = h.uncut;
+    listed = h.listed;
     numbered = h.numbered;
     none_boots = h.none_boots;
     calm = λ started. let c = h.calm started in record { no_group = c.no_group; no_flush = c.no_flush; stopped = c.stopped };

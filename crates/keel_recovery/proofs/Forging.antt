@@ -17,7 +17,7 @@ use Rattle.keel_machine.specs.Admission.{admit_after, standing}
 use Rattle.keel_machine.specs.Crash.{Leaves, CrashAnswers, crash_after}
 use Rattle.keel_machine.specs.Outside.{as_answer}
 use Rattle.keel_machine.specs.States.{State, Footing, Known, Unknown, Mode, Story, Resumption, Group, Act, with_device}
-use Rattle.keel_machine.specs.Turns.{Event, Opening, Admitting, Writing, Resuming, Flushing, TakingOutcome, Getting, Scanning, Listing, TellingError, TellingLevels, Arranging, Crashing, Starting, Finishing, Answers, after}
+use Rattle.keel_machine.specs.Turns.{Event, Opening, Admitting, Writing, Resuming, Flushing, TakingOutcome, Getting, Scanning, Listing, TellingError, TellingLevels, Arranging, Crashing, Starting, ShuttingDown, Finishing, Answers, after}
 use Rattle.keel_machine.specs.Starting.{group_turned, job_started, start_after}
 use Rattle.keel_machine.specs.declared.answers.Start.{Start}
 use Rattle.keel_machine.specs.declared.answers.Start.TheVariants as start
@@ -182,6 +182,7 @@ crash_keeps first s pick None device bound a h =
 admit_keeps : (first : ℕ) (s : State) (batch : Batch) (answer : Admit) (device : Seen) → device.told ≡ s.device.told → IsCounted first s → IsCounted first (with_device device (admit_after s batch answer))
 admit_keeps first s batch (admit.Queued ticket) device same h = same_told first s _ same refl h
 admit_keeps first s batch (admit.BadSize part size) device same h = same_told first s _ same refl h
+admit_keeps first s batch admit.Closing device same h = same_told first s _ same refl h
 admit_keeps first s batch admit.Booting device same h = same_told first s _ same refl h
 admit_keeps first s batch (admit.Full weight immutables) device same h = same_told first s _ same refl h
 admit_keeps first s batch (admit.Stopped failure) device same h = same_told first s _ same refl h
@@ -190,6 +191,7 @@ admit_keeps first s batch (admit.QueueFull waiting) device same h = same_told fi
 admit_keeps first s batch admit.OutOfMemory device same h = same_told first s _ same refl h
 
 start_keeps : (first : ℕ) (s : State) (start : Start) (device : Seen) → device.told ≡ s.device.told → IsCounted first s → IsCounted first (with_device device (start_after s start))
+start_keeps first s start.Closing device same h = same_told first s _ same refl h
 start_keeps first s start.Nothing device same h = same_told first s _ same refl h
 start_keeps first s (start.Busy job) device same h = same_told first s _ same refl h
 start_keeps first s (start.Beyond failure) device same h = same_told first s _ same refl h
@@ -217,6 +219,7 @@ answer_keeps first s (TellingLevels view) device bound a h = same_told first s _
 answer_keeps first s (Arranging rule answer) device bound a h = arranged_keeps first s rule answer device a h
 answer_keeps first s (Crashing pick kept) device bound a h = crash_keeps first s pick kept device bound a h
 answer_keeps first s (Starting start) device bound a h = start_keeps first s start device (ap (λ (d : Seen). d.told) a.1) h
+answer_keeps first s (ShuttingDown tickets) device bound a h = same_told first s _ (ap (λ (d : Seen). d.told) a.1) refl h
 answer_keeps first s Finishing device bound a h = same_told first s _ (ap (λ (d : Seen). d.told) a) refl h
 
 pub footing_stays : FootingStays

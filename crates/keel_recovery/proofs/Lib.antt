@@ -12,6 +12,7 @@ pub mod Rooting
 pub mod Stands
 pub mod BootNames
 pub mod NoCuts
+pub mod Listing
 pub mod BootImages
 pub mod BootReading
 pub mod BootStands
@@ -21,6 +22,7 @@ pub mod TakenOver
 pub mod StillStopped
 pub mod StartTurns
 pub mod BootOpened
+pub mod LeftAtRest
 pub mod BootFrame
 pub mod Passing
 pub mod Records
@@ -100,3 +102,6 @@ pub mod FlushTurns
 pub mod FlushStored
 pub mod FlushKeeping
 pub mod SafeFlushes
+pub mod Left
+pub mod Rejoining
+pub mod ClosedStore

@@ -105,30 +105,42 @@ all_within (file ∷ files) (log ∷ logs) found small read e =
 
 -- ---- numbered on
 
--- batches that run on are numbered on, each within its limits
+-- batches that run on are numbered on
 pub record RunOn (last end : ℕ) (found : List Replayed) : Type 0 where
-  pub limits : AreBatches last (ops_found found)
   pub ends : end ≡ last + count_ops (ops_found found)
   pub rows : replayed_rows found ≡ batch_rows (last + 1) (ops_found found)
 
-run_within : (last end : ℕ) (found : List Replayed) → AreWithin found → run_on last found ≡ Ok end → RunOn last end found
-run_within last end [] h e = record { limits = tt; ends = let same : last ≡ end = cc in omega (arith, same); rows = refl }
-run_within last end (b ∷ found) h e = by (b.seq == last + 1) refl e (run_within (last + length b.ops) end found h.1)
-  where
-    by : (t : Bool) → (b.seq == last + 1) ≡ t → (if t then run_on (last + length b.ops) found else Err (log_gap b.log (last + 1) b.seq)) ≡ Ok end
-        → (run_on (last + length b.ops) found ≡ Ok end → RunOn (last + length b.ops) end found) → RunOn last end (b ∷ found)
-    by true is e later =
-        let at : b.seq ≡ last + 1 = eqb-true b.seq (last + 1) is in
-        let rest = later e in
-        let next : last + length b.ops + 1 ≡ last + 1 + length b.ops = omega arith in
-        record {
-          limits = (subst (λ (n : ℕ). IsBatch n b.ops) at h.0, rest.limits);
-          ends = omega (arith, rest.ends);
-          rows = (λ i. op_rows (at i) b.ops ++ rest.rows i) ∙ ap (λ (n : ℕ). op_rows (last + 1) b.ops ++ batch_rows n (ops_found found)) next;
-        }
-    by false is e later = cc
+-- the first of them is numbered next, and the others run on behind it
+record RunsFirst (last end : ℕ) (b : Replayed) (found : List Replayed) : Type 0 where
+  next : b.seq ≡ last + 1
+  later : run_on (last + length b.ops) found ≡ Ok end
 
--- so it is with what logs of an image give
-pub logs_run : (least last end : ℕ) (image : Named (List ℕ)) (logs : List ReadLog) (found : List Replayed) → ImageSmall image → AreRead (logs_from least image) logs → all_batches logs ≡ Ok found → run_on last found ≡ Ok end
-    → RunOn last end found
-logs_run least last end image logs found small read all run = run_within last end found (all_within (logs_from least image) logs found (logs_small least image small) read all) run
+runs_first : (last end : ℕ) (b : Replayed) (found : List Replayed) → run_on last (b ∷ found) ≡ Ok end → RunsFirst last end b found
+runs_first last end b found e = by (b.seq == last + 1) refl e
+  where
+    by : (t : Bool) → (b.seq == last + 1) ≡ t → (if t then run_on (last + length b.ops) found else Err (log_gap b.log (last + 1) b.seq)) ≡ Ok end → RunsFirst last end b found
+    by true is e = record { next = eqb-true b.seq (last + 1) is; later = e }
+    by false is e = cc
+
+pub runs_on : (last end : ℕ) (found : List Replayed) → run_on last found ≡ Ok end → RunOn last end found
+runs_on last end [] e = record { ends = let same : last ≡ end = cc in omega (arith, same); rows = refl }
+runs_on last end (b ∷ found) e =
+    let first = runs_first last end b found e in
+    let rest = runs_on (last + length b.ops) end found first.later in
+    let next : last + length b.ops + 1 ≡ last + 1 + length b.ops = omega arith in
+    record {
+      ends = omega (arith, rest.ends);
+      rows = (λ i. op_rows (first.next i) b.ops ++ rest.rows i) ∙ ap (λ (n : ℕ). op_rows (last + 1) b.ops ++ batch_rows n (ops_found found)) next;
+    }
+
+within_run : (last end : ℕ) (found : List Replayed) → AreWithin found → run_on last found ≡ Ok end → AreBatches last (ops_found found)
+within_run last end [] h e = tt
+within_run last end (b ∷ found) h e =
+    let first = runs_first last end b found e in
+    (subst (λ (n : ℕ). IsBatch n b.ops) first.next h.0, within_run (last + length b.ops) end found h.1 first.later)
+
+-- what logs of an image give is within its limits, where its files hold bytes
+pub logs_within : (least last end : ℕ) (image : Named (List ℕ)) (logs : List ReadLog) (found : List Replayed) → ImageSmall image → AreRead (logs_from least image) logs → all_batches logs ≡ Ok found → run_on last found ≡ Ok end
+    → AreBatches last (ops_found found)
+logs_within least last end image logs found small read all run =
+    within_run last end found (all_within (logs_from least image) logs found (logs_small least image small) read all) run

@@ -1,11 +1,11 @@
 -- Every turn of the machine keeps its device covered.
-use Rattle.std.proofs.Common.{◌≡◌, ℕ, Bool, true, false, List, [], Option, Some, None, Result, Ok, Err, refl, sym, ap, subst}
+use Rattle.std.proofs.Common.{◌≡◌, ℕ, Bool, true, false, List, [], Option, Some, None, Result, Ok, Err, refl, sym, ap, subst, arith}
 use Rattle.keel_base.specs.declared.options.Options.{Options}
 use Rattle.keel_base.specs.Points.{Point}
 use Rattle.keel_disk.specs.Plain.{image_read}
 use Rattle.keel_disk.specs.Seen.{Seen}
 use Rattle.keel_disk.specs.Sound.{IsAtRest}
-use Rattle.keel_disk.specs.State.{State as Disk, has_waiting_cut}
+use Rattle.keel_disk.specs.State.{State as Disk}
 use Rattle.keel_base.specs.declared.memory.OutOfMemory.{OutOfMemory}
 use Rattle.keel_disk.specs.declared.rule.Rule.{Rule}
 use Rattle.keel_disk.specs.Told.{Told, Arranges}
@@ -14,9 +14,9 @@ use Rattle.keel_directory.specs.Sound.{IsSoundReading}
 use Rattle.keel_directory.specs.Standing.{ReadsAs}
 use Rattle.keel_directory.proofs.OneReading.{reading_one}
 use Rattle.keel_machine.specs.Admission.{without_outcome}
-use Rattle.keel_machine.specs.Opening.{Found, IsFoundIn, IsFoundBy, goes_on_from, OpenAnswers, story_opened, opened}
-use Rattle.keel_machine.specs.States.{State, Footing, Known, Unknown, Phase, Shut, Booting, Open, Leaving, Nothing, Crashed, Left, Story, is_open, is_left, new_story, with_device}
-use Rattle.keel_machine.specs.Turns.{Event, Opening, Admitting, Writing, Resuming, Flushing, TakingOutcome, Getting, Scanning, Listing, TellingError, TellingLevels, Arranging, Crashing, Starting, Finishing, Answers, after}
+use Rattle.keel_machine.specs.Opening.{Found, GoesOn, GoesOnWith, IsFoundIn, IsFoundBy, goes_on_from, OpenAnswers, story_opened, opened}
+use Rattle.keel_machine.specs.States.{State, Footing, Known, Unknown, Phase, Shut, Booting, Open, Closing, Leaving, Nothing, Crashed, Left, Story, is_open, is_left, joined_story, new_story, with_device}
+use Rattle.keel_machine.specs.Turns.{Event, Opening, Admitting, Writing, Resuming, Flushing, TakingOutcome, Getting, Scanning, Listing, TellingError, TellingLevels, Arranging, Crashing, Starting, ShuttingDown, Finishing, Answers, after}
 use Rattle.keel_machine.specs.Telling.{ArrangeAnswers}
 use Rattle.keel_machine.specs.Reads.{IsReadFault, GetAnswers, ScanAnswers}
 use Rattle.keel_machine.specs.declared.answers.Got.{Got}
@@ -27,13 +27,15 @@ use Rattle.keel_table.specs.declared.fault.TableFault.{TableFault}
 use Rattle.keel_table.specs.declared.fault.TableFault.TheVariants as fault
 use Rattle.keel_open.specs.Listed.{IsDirectory}
 use Rattle.keel_open.proofs.Joining.{sound_is_directory}
-use Rattle.keel_recovery.specs.BootLaws.{IsAfterCrash}
 use Rattle.keel_recovery.specs.BootTurns.{BootCallKeeps}
-use Rattle.keel_recovery.specs.Machine.{MayCall, IsSoundIfRead, IsLeft, KeptShut, KeptBy, IsCoveredBy, IsCovered, OpeningBoots, TurnKeeps}
-use Rattle.keel_recovery.specs.Standing.{Stands}
+use Rattle.keel_recovery.specs.Leaving.{IsLeft}
+use Rattle.keel_recovery.specs.Machine.{MayCall, IsSoundIfRead, KeptShut, KeptBy, IsCoveredBy, IsCovered, OpeningBoots, TurnKeeps}
+use Rattle.keel_recovery.proofs.ClosedStore.{close_keeps, finish_keeps}
 use Rattle.keel_recovery.proofs.Covered.{OpenBy, same_keeps, as_it_is, same_boot, told_keeps}
 use Rattle.keel_recovery.proofs.Crashing.{crash_keeps}
 use Rattle.keel_recovery.proofs.FlushKeeping.{flush_keeps}
+use Rattle.keel_recovery.proofs.LeftAtRest.{rest_left}
+use Rattle.keel_recovery.proofs.Rejoining.{left_joined}
 use Rattle.keel_recovery.proofs.Resting.{first_stands}
 use Rattle.keel_recovery.proofs.ResumeTurns.{resume_keeps}
 use Rattle.keel_recovery.proofs.StartTurns.{start_keeps}
@@ -71,29 +73,30 @@ left_sound state story h reading is =
     if_read (refused refusal) sound = absurd sound
 
 -- what an opening begins with, or goes on with
-record Begins (state : Disk) (story : Story) : Type 0 where
-  rest : IsAtRest state
-  after : IsAfterCrash story
-  stands : Stands state story
+begins_new : (told : Told) (found : Found) → IsAtRest told.state → ((reading : Reading) → IsReading (image_read told.state) reading → IsSoundIfRead reading) → IsFoundIn told found → IsLeft told.state (new_story found.point)
+begins_new told found rest sound h = rest_left told.state (new_story found.point) rest (omega arith) (first_stands told.state found.point rest (found_reads told found rest sound h))
 
-begins_new : (told : Told) (found : Found) → IsAtRest told.state → ((reading : Reading) → IsReading (image_read told.state) reading → IsSoundIfRead reading) → IsFoundIn told found → Begins told.state (new_story found.point)
-begins_new told found rest sound h = record {
-  rest = rest;
-  after = record { none_in_limbo = refl; all_stay = refl };
-  stands = first_stands told.state found.point rest (found_reads told found rest sound h);
-}
+-- an opening that goes on finds the point that the story leads to with the first so many batches of its limbo
+begins_on : (told : Told) (found : Found) (story : Story) → IsLeft told.state story → GoesOn story found.joined found.point → IsFoundIn told found → IsLeft told.state (joined_story found.joined story)
+begins_on told found story h goes inside = left_joined story found.joined told.state found.point h goes (record {
+  reading = inside.reading;
+  is_read = inside.is_read;
+  sound = sound_of inside.reading found.point inside.has (left_sound told.state story h inside.reading inside.is_read);
+  has = inside.has;
+})
 
-begins : (leaving : Leaving) (footing : Footing) (told : Told) (found : Found) (s : State) → footing ≡ Known → (IsDirectory told.state → IsFoundIn told found) → KeptShut (is_left leaving) told.state s
-    → Begins told.state (story_opened (goes_on_from leaving footing) found.point s.story)
-begins leaving Unknown told found s known finds h = cc
-begins Nothing Known told found s known finds h = begins_new told found h.at_rest h.sound (finds (directory_at_rest told.state h.at_rest))
-begins Crashed Known told found s known finds h = record { rest = h.at_rest; after = h.after_crash; stands = h.stands }
-begins Left Known told found s known finds h = begins_new told found h.at_rest (left_sound told.state s.story h) (finds (directory_at_rest told.state h.at_rest))
+begins : (leaving : Leaving) (footing : Footing) (told : Told) (found : Found) (s : State) → footing ≡ Known → (IsDirectory told.state → IsFoundIn told found) → GoesOnWith (goes_on_from leaving footing) s.story found.joined found.point
+    → KeptShut (is_left leaving) told.state s → IsLeft told.state (story_opened (goes_on_from leaving footing) found.joined found.point s.story)
+begins leaving Unknown told found s known finds goes h = cc
+begins Nothing Known told found s known finds goes h = begins_new told found h.at_rest h.sound (finds (directory_at_rest told.state h.at_rest))
+begins Crashed Known told found s known finds goes h = begins_on told found s.story h goes (finds (sound_is_directory told.state h.one_to_one))
+begins Left Known told found s known finds goes h = begins_on told found s.story h goes (finds (sound_is_directory told.state h.one_to_one))
 
 shut_kept : (phase : Phase) (left : Bool) (state : Disk) (s : State) → is_open phase ≡ false → KeptBy phase left state s → KeptShut left state s
 shut_kept Shut left state s shut h = h
 shut_kept Booting left state s shut h = cc
 shut_kept Open left state s shut h = cc
+shut_kept Closing left state s shut h = cc
 
 opens_by : OpeningBoots → (f : Footing) (o : Option Told) (s : State) (options : Options) (found : Found) (device : Seen) → f ≡ s.footing → o ≡ s.device.told → is_open s.mode.phase ≡ false → OpenAnswers s (Ok found) device
     → IsCoveredBy f s.mode o s → IsCoveredBy f (record s.mode { phase = Booting }) o (with_device device (opened options found s))
@@ -102,11 +105,11 @@ opens_by boots Known None s options found device footing told shut a h = h
 opens_by boots Known (Some told) s options found device footing is shut a h =
     let known : s.footing ≡ Known = sym footing in
     let finds : IsDirectory told.state → IsFoundIn told found = subst (λ (o : Option Told). IsFoundBy o found) (sym is) a.finds.read in
-    let b = begins s.mode.left s.footing told found s known finds (shut_kept s.mode.phase (is_left s.mode.left) told.state s shut h) in
-    let kept = boots s options found device told (sym is) a b.rest b.after b.stands in
+    let left = begins s.mode.left s.footing told found s known finds a.finds.goes_on (shut_kept s.mode.phase (is_left s.mode.left) told.state s shut h) in
+    let kept = boots s options found device told (sym is) a left in
     record {
-      one_to_one = b.rest.sound.one_to_one;
-      cuts = λ file above. ap (has_waiting_cut file) b.rest.settled.none_waits;
+      one_to_one = left.one_to_one;
+      cuts = left.cuts;
       kept = same_boot told.state (opened options found s) device [] kept;
       none_waits = refl;
     }
@@ -169,7 +172,8 @@ answer_keeps opens boots s (TellingLevels view) device may a h = as_it_is s devi
 answer_keeps opens boots s (Arranging rule answer) device may a h = arranged_keeps s rule answer device a h
 answer_keeps opens boots s (Crashing pick kept) device may a h = crash_keeps s pick kept device a h
 answer_keeps opens boots s (Starting answer) device may a h = start_keeps s answer device a.0 (ap (λ (d : Seen). d.told) a.1) h
-answer_keeps opens boots s Finishing device may a h = absurd may
+answer_keeps opens boots s (ShuttingDown tickets) device may a h = close_keeps s device may (ap (λ (d : Seen). d.told) a.1) h
+answer_keeps opens boots s Finishing device may a h = finish_keeps s device may (ap (λ (d : Seen). d.told) a) h
 
 pub turn_keeps : OpeningBoots → BootCallKeeps → TurnKeeps
 turn_keeps opens boots s next event may turn h = subst IsCovered (sym turn.1) (answer_keeps opens boots s event next.device may turn.0 h)

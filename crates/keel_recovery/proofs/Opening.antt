@@ -1,11 +1,9 @@
--- What an opening finds of a device at rest.
+-- What an opening finds of a device that was left.
 use Rattle.std.specs.Prelude.{All}
 use Rattle.std.specs.List.{AllByRecursion, flat_map}
 use Rattle.std.specs.FinMap.{get-empty}
-use Rattle.std.proofs.Common.{◌≡◌, ℕ, ◌+◌, ◌<◌, ◌≤◌, Bool, true, false, if◌then◌else◌, List, [], ◌∷◌, ◌++◌, length, take, Some, option_map, inl, inr, refl, sym, ap, subst, ◌∙◌, arith, take_all}
-use Rattle.std.proofs.lemmas.List.{append-nil, get_or_past}
-use Rattle.std.proofs.lemmas.List.Elements.{All-get_or}
-use Rattle.std.proofs.lemmas.Bool.{cases_lt}
+use Rattle.std.proofs.Common.{◌≡◌, ℕ, ◌+◌, ◌<◌, ◌≤◌, Bool, true, false, if◌then◌else◌, List, [], ◌∷◌, ◌++◌, length, Some, option_map, refl, sym, ap, subst, ◌∙◌, arith}
+use Rattle.std.proofs.lemmas.List.{append-nil}
 use Rattle.keel_base.specs.declared.file_name.FileName.{FileName}
 use Rattle.keel_base.specs.declared.listing.Entry.{Entry}
 use Rattle.keel_base.specs.declared.op.Op.{Op}
@@ -21,12 +19,9 @@ use Rattle.keel_directory.specs.Reading.{StoreRead}
 use Rattle.keel_directory.specs.Replays.{replayed_rows}
 use Rattle.keel_directory.specs.Sound.{AllAgree, AreLayered, IsAsSaid, IsSoundly}
 use Rattle.keel_directory.specs.TableFiles.{table_rows}
-use Rattle.keel_disk.specs.declared.state.File.{File}
-use Rattle.keel_disk.specs.declared.state.Operation.{Operation}
-use Rattle.keel_disk.specs.Directory.{Named, find, operated_all}
-use Rattle.keel_disk.specs.Plain.{bytes_read}
-use Rattle.keel_disk.specs.Sound.{IsFile, IsAtRest}
-use Rattle.keel_disk.specs.State.{new_file, file_at, file_of, directory_read}
+use Rattle.keel_disk.specs.Directory.{Named}
+use Rattle.keel_disk.specs.Sound.{IsOneToOne}
+use Rattle.keel_disk.specs.State.{file_at, directory_read}
 use Rattle.keel_disk.specs.Steady.{file_behind}
 use Rattle.keel_disk.specs.Told.{Told, TellsListing}
 use Rattle.keel_disk.proofs.Steadily.{read_own}
@@ -37,26 +32,14 @@ use Rattle.keel_machine.specs.Resuming.{batches_in}
 use Rattle.keel_machine.specs.States.{Story, entries_in, point_of}
 use Rattle.keel_open.specs.NextFiles.{number_in, IsOverAll}
 use Rattle.keel_recovery.specs.BootCalls.{BootFacts, joined}
+use Rattle.keel_recovery.specs.Readings.{AreListed}
 use Rattle.keel_recovery.proofs.Bearing.{segment_rows_are}
 use Rattle.keel_recovery.proofs.Found.{HeldGives, replays, front_agrees}
-use Rattle.keel_recovery.proofs.Limits.{ImageSmall, logs_run}
-use Rattle.keel_recovery.proofs.Payloads.{AreSmall, small_of}
+use Rattle.keel_recovery.proofs.Limits.{runs_on}
 use Rattle.keel_recovery.proofs.Rows.{ops_found}
 use Rattle.keel_recovery.proofs.Stands.{own_name}
 use Rattle.keel_draft.specs.Drafts.{batch_rows, count_ops}
 use Rattle.keel_version.specs.Tables.{AreLevels, IsWithin, nothing}
-
--- ---- the bytes that reads give
-
-small_file : (files : List File) → All IsFile files → (n : ℕ) → AreSmall (file_at n files).read
-small_file files sound n = elim (cases_lt n (length files)) [
-  | inl within ↦ small_of (file_at n files).read (All-get_or IsFile files n new_file within sound).read_are
-  | inr over ↦ subst (λ (f : File). AreSmall f.read) (sym (get_or_past files n new_file over)) tt
-]
-
-pub small_image : (files : List File) (directory : Named ℕ) → All IsFile files → ImageSmall (bytes_read files directory)
-small_image files [] sound = tt
-small_image files (entry ∷ rest) sound = (small_file files sound entry.1, small_image files rest sound)
 
 -- ---- the numbers of names
 
@@ -68,16 +51,15 @@ listed name size next (entry ∷ rest) over is = by (name_eq entry.name name) re
     by true same is later = subst (λ (n : FileName). number_in n < next) (name_eq-true entry.name name same) over.0
     by false differs is later = later is
 
-pub all_drawn : (told : Told) (listing : List Entry) (next : ℕ) → IsAtRest told.state → IsOverAll next listing → TellsListing (Some told) listing → (count file : ℕ) (name : FileName) → file_behind count name told.state ≡ Some file
-    → number_in name < next
-all_drawn told listing next rest over tells count file name named =
-    let none : take count told.state.waiting ≡ [] = ap (take count) rest.settled.none_waits ∙ take_all count [] (omega arith) in
-    let firm : find name told.state.firm ≡ Some file = subst (λ (ops : List Operation). find name (operated_all ops told.state.firm) ≡ Some file) none named in
-    let here : file_of name told.state ≡ Some file = subst (λ (ops : List Operation). find name (operated_all ops told.state.firm) ≡ Some file) (sym rest.settled.none_waits) firm in
-    let is_name : IsName name = own_name (length told.state.files) file name (directory_read told.state) (read_own told.state rest.sound.one_to_one) here in
-    let size : size_listed name listing ≡ Some (length (file_at file told.state.files).read) =
-    tells name is_name ∙ ap (λ o. option_map length (option_map (λ n. (file_at n told.state.files).read) o)) here in
-    listed name (length (file_at file told.state.files).read) next listing over size
+-- where the listing is over all names that reads see, the number is over those of each directory
+pub all_drawn : (told : Told) (listing : List Entry) (next : ℕ) → IsOneToOne told.state → AreListed told.state → IsOverAll next listing → TellsListing (Some told) listing → (count file : ℕ) (name : FileName)
+    → file_behind count name told.state ≡ Some file → number_in name < next
+all_drawn told listing next one are over tells count file name is =
+    let high = are count file name is in
+    let is_name : IsName high.name = own_name (length told.state.files) high.file high.name (directory_read told.state) (read_own told.state one) high.named in
+    let size : size_listed high.name listing ≡ Some (length (file_at high.file told.state.files).read) =
+    tells high.name is_name ∙ ap (λ o. option_map length (option_map (λ n. (file_at n told.state.files).read) o)) high.named in
+    omega (arith, high.high, listed high.name (length (file_at high.file told.state.files).read) next listing over size)
 
 -- ---- what was replayed
 
@@ -90,13 +72,13 @@ some_each [] logs = tt
 some_each (first ∷ ops) logs = (omega arith, tt)
 
 -- the point that the story leads to is the one that was found
-pub point_is : (goes : Bool) (story : Story) (point : Point) → GoesOnWith goes story point → point_of (story_opened goes point story) ≡ point
-point_is true story point h = sym h
-point_is false story point h = refl
+pub point_is : (goes : Bool) (story : Story) (joined : ℕ) (point : Point) → GoesOnWith goes story joined point → point_of (story_opened goes joined point story) ≡ point
+point_is true story joined point h = sym h.point_is
+point_is false story joined point h = refl
 
 -- ---- what is held
 
-module _ (image : Named (List ℕ)) (small : ImageSmall image) (found : Found) (story : Story) (order : AreLevels found.store.version.tables) (within : IsWithin found.store.version)
+module _ (image : Named (List ℕ)) (found : Found) (story : Story) (order : AreLevels found.store.version.tables) (within : IsWithin found.store.version)
     (tables : entries_in found.levels ≡ found.store.version.tables) (seq : found.point.seq ≡ found.store.last_seq) (point : point_of story ≡ found.point) where
   abbrev ops : List (List Op)
   ops = ops_replayed found.store.batches.items
@@ -114,10 +96,10 @@ module _ (image : Named (List ℕ)) (small : ImageSmall image) (found : Found) (
   entries_order = subst AreLevels (sym tables) order
 
   pub held_facts : (f : StoreRead) → found.levels ≡ f.tables → f.version ≡ found.store.version → f.replay.batches ≡ found.store.batches.items → f.replay.last ≡ found.store.last_seq
-      → IsSoundly f → HeldGives image f found.point → Facts
-  held_facts f levels version batches last sound gives =
+      → IsSoundly f → AreBatches f.version.last_seq (ops_found f.replay.batches) → HeldGives image f found.point → Facts
+  held_facts f levels version batches last sound limits gives =
       let r = replays image f.version.min_log f.version.last_seq f.replay gives.logs in
-      let run = logs_run f.version.min_log f.version.last_seq f.replay.last image r.logs f.replay.batches small r.are r.all r.runs in
+      let run = runs_on f.version.last_seq f.replay.last f.replay.batches r.runs in
       let last_is : f.version.last_seq ≡ found.store.version.last_seq = ap (λ v. v.last_seq) version in
       let ops_are : ops_found f.replay.batches ≡ ops = ap ops_found batches in
       let joined_are : ops ≡ joined segments = sym (joined_one ops found.store.logs.items) in
@@ -129,7 +111,7 @@ module _ (image : Named (List ℕ)) (small : ImageSmall image) (found : Found) (
         layered = subst (λ ts. AllByRecursion (λ upper. AllByRecursion (AreLayered upper) ts) ts) (sym levels) sound.layered;
         entries = entries_added;
         order = entries_order;
-        limits = subst (AreBatches found.store.version.last_seq) (ops_are ∙ joined_are) (subst (λ (n : ℕ). AreBatches n (ops_found f.replay.batches)) last_is run.limits);
+        limits = subst (AreBatches found.store.version.last_seq) (ops_are ∙ joined_are) (subst (λ (n : ℕ). AreBatches n (ops_found f.replay.batches)) last_is limits);
         each_some = some_each ops found.store.logs.items;
         in_known = omega (arith, within.last_seq);
         map = subst (λ (p : Point). IsMapOf (flat_map table_rows found.levels ++ segment_rows found.store.version.last_seq segments) p.values) (sym point)

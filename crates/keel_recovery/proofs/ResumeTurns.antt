@@ -13,7 +13,7 @@ use Rattle.keel_machine.specs.declared.steps.ResumeStep.{ResumeStep}
 use Rattle.keel_machine.specs.declared.steps.ResumeStep.TheVariants as step
 use Rattle.keel_machine.specs.Admission.{stopping}
 use Rattle.keel_machine.specs.Resuming.{AreDrafts, AreTables, Makes, MadeCall, ResumeAnswers, resume_ready, resume_after, started_or, act_done, act_failed, job_begun, taken_over, call_done, call_failed, numbered_behind}
-use Rattle.keel_machine.specs.States.{State, Phase, Shut, Booting, Open, is_open, is_left, is_booting, Resumption, with_device}
+use Rattle.keel_machine.specs.States.{State, Phase, Shut, Booting, Open, Closing, is_open, is_left, is_booting, Resumption, with_device}
 use Rattle.keel_draft.specs.Drafts.{Draft}
 use Rattle.keel_resume.specs.Plans.{Act, Job, change_of, draws, failure_of, moved, next_behind}
 use Rattle.keel_recovery.specs.BootCalls.{BootKept, RunsSo}
@@ -48,9 +48,9 @@ pub record InJob (s : State) (drafts : List Draft) (state : Disk) : Type 0 where
   pub place : IsPlace s
 
 -- the job that runs, or the one that begins
-ready_kept : (s : State) (drafts : List Draft) (state : Disk) (running : Option Resumption) → running ≡ s.jobs.resume.running → AreDrafts running s drafts → IsOneToOne state → BootKept s state → BootKept (started_or running drafts s) state
-ready_kept s drafts state None is are one kept = begins_anew s state drafts one kept (sym is) are
-ready_kept s drafts state (Some running) is are one kept = kept
+ready_kept : (s : State) (drafts : List Draft) (state : Disk) (running : Option Resumption) → running ≡ s.jobs.resume.running → AreDrafts running s drafts → IsOneToOne state → CutsExist state → BootKept s state → BootKept (started_or running drafts s) state
+ready_kept s drafts state None is are one cuts kept = begins_anew s state drafts one cuts kept (sym is) are
+ready_kept s drafts state (Some running) is are one cuts kept = kept
 
 -- one that begins in a store that writes
 begun_kept : (s : State) (drafts : List Draft) (state : Disk) (running : Option Resumption) → running ≡ None → BootKept (job_begun drafts (taken_over s)) state → BootKept (started_or running drafts s) state
@@ -61,7 +61,7 @@ boot_in_job : (s : State) (drafts : List Draft) (state : Disk) → AreDrafts s.j
 boot_in_job s drafts state are one cuts kept place = record {
   one_to_one = one;
   cuts = cuts;
-  kept = ready_kept s drafts state s.jobs.resume.running refl are one kept;
+  kept = ready_kept s drafts state s.jobs.resume.running refl are one cuts kept;
   stands = boot_stands state s one kept;
   place = place;
 }
@@ -92,6 +92,8 @@ pub in_job : (s : State) (drafts : List Draft) (held : Option ℕ) (running : Re
 in_job s drafts held running act later makes Shut left state is opens h = absurd (never_open opens)
 in_job s drafts held running act later makes Booting left state is opens h =
     boot_in_job s drafts state makes.drafts_are h.one_to_one h.cuts h.kept (inl (sym is, h.none_waits))
+in_job s drafts held running act later makes Closing left state is opens h =
+    absurd (never_open (sym h.unstarted ∙ asked_for s drafts held makes.no_rest h.no_boot (ap is_booting (sym is))))
 in_job s drafts held running act later makes Open left state is opens (inr h) =
     boot_in_job s drafts state makes.drafts_are h.one_to_one h.cuts h.kept (inr (sym is, h.stopped))
 in_job s drafts held running act later makes Open left state is opens (inl h) =

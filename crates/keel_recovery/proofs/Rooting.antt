@@ -1,6 +1,6 @@
 -- A directory that shows a root and the logs behind it reads as a prefix of the story.
 use Rattle.std.specs.List.{flat_map}
-use Rattle.std.proofs.Common.{◌≡◌, ℕ, ◌+◌, ◌≤◌, false, List, [], ◌++◌, length, take, drop, Some, Ok, refl, sym, ap, subst, ◌∙◌, arith, take-add}
+use Rattle.std.proofs.Common.{◌≡◌, ℕ, ◌+◌, ◌≤◌, false, List, [], ◌++◌, length, take, drop, Some, Ok, refl, sym, ap, subst, ◌∙◌, arith, append_assoc, take-add, take-append-drop}
 use Rattle.std.proofs.lemmas.List.{length-append, length-drop, take-append-le}
 use Rattle.keel_base.specs.declared.file_name.FileName.TheVariants.{Manifest, Current}
 use Rattle.keel_base.specs.declared.op.Op.{Op}
@@ -15,16 +15,17 @@ use Rattle.keel_directory.specs.Manifests.{ManifestIs}
 use Rattle.keel_directory.specs.Reading.{StoreRead, IsReading, WithCurrent, held, all_rows}
 use Rattle.keel_directory.specs.Replays.{AreRead, LogsAre, logs_from}
 use Rattle.keel_directory.specs.Sound.{AllAgree}
-use Rattle.keel_directory.specs.TableFiles.{AllOpen, table_rows}
+use Rattle.keel_directory.specs.TableFiles.{AllOpen, TableFile, table_rows}
 use Rattle.keel_edit.specs.declared.edit.Edit.{Edit}
 use Rattle.keel_batch.specs.Batches.{AreBatches}
 use Rattle.keel_machine.specs.States.{Story}
 use Rattle.keel_name.specs.Current.{current_of}
 use Rattle.keel_recovery.specs.Chains.{Chained, FollowOn, is_chained, batches_of}
+use Rattle.keel_recovery.specs.Readings.{AreLimited, batches_read}
 use Rattle.keel_recovery.specs.Roots.{IsRoot, point_at}
 use Rattle.keel_recovery.specs.Standing.{ReadsIn}
 use Rattle.keel_recovery.proofs.LogFiles.{log_bytes, files_of, logs_are}
-use Rattle.keel_recovery.proofs.Numbering.{folded_append, seq_folded}
+use Rattle.keel_recovery.proofs.Numbering.{batches_take, folded_append, seq_folded}
 use Rattle.keel_recovery.proofs.Onward.{all_of, Onward}
 use Rattle.keel_recovery.proofs.OpenTables.{open_are, said_known}
 use Rattle.keel_recovery.proofs.Rows.{AreKnown, map_folds, rows_agree}
@@ -41,6 +42,16 @@ pub record ShowsRoot (mark manifest next_file : ℕ) (edits : List Edit) (logs :
   pub once : AreNamedOnce image
   pub on : Onward root.version.min_log mark root.place logs story image
   pub others : (n : ℕ) → root.version.min_log ≤ n → is_chained n logs ≡ false → log_bytes n image ≡ []
+
+-- The reading of such a directory has these tables, and its batches are the first of the story's behind a place, within their limits.
+pub record RootRead (place : ℕ) (tables : List TableFile) (story : Story) (image : Named (List ℕ)) : Type 0 where
+  pub found : StoreRead
+  pub point : Point
+  pub is_read : IsReading image (held found point)
+  pub tables_are : found.tables ≡ tables
+  pub limits : AreLimited (held found point)
+  pub more : List (List Op)
+  pub batches_are : drop place (all_of story) ≡ batches_read (held found point) ++ more
 
 -- the replay of so many batches
 read_so : (last : ℕ) (image : Named (List ℕ)) (least : ℕ) (written : List (List Op)) (numbers : List ℕ) → logs_from least image ≡ files_of numbers image
@@ -95,6 +106,24 @@ module _ (mark manifest next_file : ℕ) (edits : List Edit) (logs : List Chaine
         (Ok manifest, (refl, shows.numbered), (Ok root.version, shows.version, (Ok root.tables, open_are image root.version.tables root.tables shows.tables, (Ok found.replay, logs_read, refl)))),
         (refl, is_map, seq_folded (point_at root.place story) (take given.count (batches_of shows.on.rest)) ∙ ap (λ (n : ℕ). n + count_ops (take given.count (batches_of shows.on.rest))) (sym root.ends)),
       )
+
+  -- the batches that are read are the first of those behind the root's place
+  pub root_read : RootRead root.place root.tables story image
+  root_read =
+      let on = shows.on in
+      let batches = batches_of on.rest in
+      let count = given.count in
+      record {
+        found = found;
+        point = point;
+        is_read = is_read;
+        tables_are = refl;
+        limits = subst (AreBatches root.version.last_seq) (sym given.reads.runs.ops) (batches_take count root.version.last_seq batches (subst (λ (n : ℕ). AreBatches n batches) (sym root.ends) on.limits));
+        more = drop count batches ++ on.more;
+        batches_are =
+            on.batches_are ∙ (ap (λ (l : List (List Op)). l ++ on.more) (sym (take-append-drop count batches)) ∙ append_assoc (take count batches) (drop count batches) on.more)
+            ∙ ap (λ (l : List (List Op)). l ++ (drop count batches ++ on.more)) (sym given.reads.runs.ops);
+      }
 
   pub root_reads : ReadsIn story mark image
   root_reads =

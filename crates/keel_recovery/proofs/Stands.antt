@@ -9,8 +9,9 @@ use Rattle.keel_disk.specs.Directory.{Named, find}
 use Rattle.keel_disk.specs.State.{State, file_at, settled_through, has_waiting_cut}
 use Rattle.keel_disk.specs.Plain.{image_read}
 use Rattle.keel_disk.specs.Sound.{AreOwn, IsOneToOne}
-use Rattle.keel_disk.specs.Steady.{file_behind, IsHeld}
+use Rattle.keel_disk.specs.Steady.{AllRead, file_behind, IsHeld}
 use Rattle.keel_directory.specs.Manifests.{ManifestIs}
+use Rattle.keel_edit.specs.declared.edit.Edit.{Edit}
 use Rattle.keel_edit.specs.Spelling.{spelling}
 use Rattle.keel_frag.specs.Images.{IsImage, IsPlain}
 use Rattle.keel_frag.specs.Writing.{records_bytes}
@@ -19,12 +20,12 @@ use Rattle.keel_name.specs.Current.{current_of}
 use Rattle.keel_recovery.specs.Chains.{Chained, payloads, size_of_first, HoldsRecords, HoldsBatches, IsWholeLog, AreChained}
 use Rattle.keel_recovery.specs.Keeping.{HoldStory}
 use Rattle.keel_recovery.specs.Laws.{WayReads, WayIsRead, KeepingStands}
-use Rattle.keel_recovery.specs.Roots.{Way, IsWay, Goes, AreRoots}
+use Rattle.keel_recovery.specs.Roots.{Way, IsWay, Goes, IsRoot, AreRoots}
 use Rattle.keel_recovery.specs.Standing.{ReadsIn}
 use Rattle.keel_recovery.proofs.LogFiles.{log_bytes}
 use Rattle.keel_recovery.proofs.Onward.{rising, from_zero, onward}
 use Rattle.keel_recovery.proofs.OpenTables.{firm_open}
-use Rattle.keel_recovery.proofs.Rooting.{root_reads}
+use Rattle.keel_recovery.proofs.Rooting.{ShowsRoot, root_reads}
 use Rattle.keel_recovery.proofs.Seeing.{SeenLog, AreSeen}
 use Rattle.keel_recovery.proofs.Showing.{Showing, image_shows, read_shows}
 use Rattle.keel_recovery.proofs.TornManifest.{torn_version}
@@ -37,6 +38,12 @@ own_name bound file name (entry ∷ rest) own e = by (name_eq entry.0 name) refl
     by : (t : Bool) → name_eq entry.0 name ≡ t → (if t then Some entry.1 else find name rest) ≡ Some file → (find name rest ≡ Some file → IsName name) → IsName name
     by true is e later = subst IsName (name_eq-true entry.0 name is) own.0.is_name
     by false is e later = later e
+
+-- what a directory shows of a way: a root, with the logs behind it
+pub record ShowsWay (mark : ℕ) (way : Way) (next_file : ℕ) (logs : List Chained) (story : Story) (state : State) (image : Named (List ℕ)) : Type 0 where
+  pub edits : List Edit
+  pub root : IsRoot edits logs story next_file state
+  pub shown : ShowsRoot mark way.manifest next_file edits logs story state root image
 
 module _ (firm_of : File → ℕ) (count mark floor published : ℕ) (state : State) (image : Named (List ℕ)) (shows : Showing firm_of count state image)
     (marked : (before : ℕ) (payloads : List (List ℕ)) (file : File) → HoldsRecords (floor - before) (published - before) payloads file → size_of_first (mark - before) payloads ≤ firm_of file)
@@ -75,7 +82,7 @@ module _ (firm_of : File → ℕ) (count mark floor published : ℕ) (state : St
   all_seen (log ∷ logs) h = (seen_log log h.0, ⊎_elim (λ none. inl none) (λ whole. inr (whole_log log h.0 whole)) h.2, all_seen logs h.3)
 
   pub way_shown : (way : Way) (place next_file : ℕ) (logs : List Chained) (story : Story) → IsOneToOne state → IsWay way state → Goes count way state → AreRoots way logs story next_file state
-      → HoldStory place logs story state → floor ≡ story.floor → published ≡ length story.log → mark ≤ length story.log → ReadsIn story mark image
+      → HoldStory place logs story state → floor ≡ story.floor → published ≡ length story.log → mark ≤ length story.log → ShowsWay mark way next_file logs story state image
   way_shown way place next_file logs story one_to_one is goes roots stored floor_is published_is within =
       let f = file_at way.file state.files in
       let found = shows.named (Manifest way.manifest) way.file goes.manifest is.not_cut in
@@ -83,26 +90,40 @@ module _ (firm_of : File → ℕ) (count mark floor published : ℕ) (state : St
       (subst (λ (m : List ℕ). IsImage (firm_of f) m found.bytes) is.meant_is found.is_image) (subst (λ (m : List ℕ). IsPlain m found.bytes) is.meant_is (found.plain refl)) in
       let root = roots torn.count torn.enough torn.within in
       let chained : AreChained floor published logs state = subst (λ (n : ℕ). AreChained floor n logs state) (sym published_is) (subst (λ (n : ℕ). AreChained n (length story.log) logs state) (sym floor_is) stored.chained) in
-      root_reads mark way.manifest next_file (take torn.count way.edits) logs story state root image (record {
-        current = held_found Current goes.current (current_of way.manifest) goes.named goes.not_cut goes.says;
-        numbered = own_name (length state.files) way.file (Manifest way.manifest) (settled_through count state).firm (one_to_one count) goes.manifest;
-        version = subst (λ o. ManifestIs o (Ok root.version)) (sym found.there) (torn.gives root.version root.is_version);
-        tables = firm_open state image root.version.tables root.tables (λ table file h. held_found (Table table.number) h.file file.bytes (h.steady.named count) h.steady.not_cut h.held) root.firm;
-        once = shows.once;
-        on = onward root.version.min_log mark root.place story image within root.published logs place 0 stored.in_turn stored.limits stored.batches_are (all_seen logs chained)
-            (rising floor published 0 logs state chained (from_zero logs)) root.begins;
-        others = λ n low out. shows.empty n (λ file named. root.others count n file low out named);
-      })
+      record {
+        edits = take torn.count way.edits;
+        root = root;
+        shown = record {
+          current = held_found Current goes.current (current_of way.manifest) goes.named goes.not_cut goes.says;
+          numbered = own_name (length state.files) way.file (Manifest way.manifest) (settled_through count state).firm (one_to_one count) goes.manifest;
+          version = subst (λ o. ManifestIs o (Ok root.version)) (sym found.there) (torn.gives root.version root.is_version);
+          tables = firm_open state image root.version.tables root.tables (λ table file h. held_found (Table table.number) h.file file.bytes (h.steady.named count) h.steady.not_cut h.held) root.firm;
+          once = shows.once;
+          on = onward root.version.min_log mark root.place story image within root.published logs place 0 stored.in_turn stored.limits stored.batches_are (all_seen logs chained)
+              (rising floor published 0 logs state chained (from_zero logs)) root.begins;
+          others = λ n low out. shows.empty n (λ file named. root.others count n file low out named);
+        };
+      }
+
+shown_reads : (mark : ℕ) (way : Way) (next_file : ℕ) (logs : List Chained) (story : Story) (state : State) (image : Named (List ℕ)) → ShowsWay mark way next_file logs story state image → ReadsIn story mark image
+shown_reads mark way next_file logs story state image h = root_reads mark way.manifest next_file h.edits logs story state h.root image h.shown
 
 pub way_reads : WayReads
 way_reads way place next_file count logs story state image one_to_one is goes roots stored plain =
-    way_shown (λ file. file.firm) count story.floor story.floor (length story.log) state image (image_shows count state image one_to_one plain.0 plain.1)
-    (λ before payloads file h. h.firm_to) (λ file bytes h. h.firm) (λ way h. h.firm_to) way place next_file logs story one_to_one is goes roots stored refl refl stored.floor_within
+    shown_reads story.floor way next_file logs story state image
+    (way_shown (λ file. file.firm) count story.floor story.floor (length story.log) state image (image_shows count state image one_to_one plain.0 plain.1)
+    (λ before payloads file h. h.firm_to) (λ file bytes h. h.firm) (λ way h. h.firm_to) way place next_file logs story one_to_one is goes roots stored refl refl stored.floor_within)
+
+-- where CURRENT as read names a way, the directory that reads see shows a root of it
+pub way_seen : (way : Way) (place next_file : ℕ) (logs : List Chained) (story : Story) (state : State) → IsOneToOne state → AllRead state → IsWay way state → Goes (length state.waiting) way state → AreRoots way logs story next_file state
+    → HoldStory place logs story state → ShowsWay (length story.log) way next_file logs story state (image_read state)
+way_seen way place next_file logs story state one_to_one read is goes roots stored =
+    way_shown (λ file. length file.read) (length state.waiting) (length story.log) story.floor (length story.log) state (image_read state) (read_shows state one_to_one read)
+    (λ before payloads file h. h.read_to) (λ file bytes h. ap length h.read) (λ way h. h.read_to) way place next_file logs story one_to_one is goes roots stored refl refl (omega arith)
 
 pub way_is_read : WayIsRead
 way_is_read way place next_file logs story state one_to_one read is goes roots stored =
-    way_shown (λ file. length file.read) (length state.waiting) (length story.log) story.floor (length story.log) state (image_read state) (read_shows state one_to_one read)
-    (λ before payloads file h. h.read_to) (λ file bytes h. ap length h.read) (λ way h. h.read_to) way place next_file logs story one_to_one is goes roots stored refl refl (omega arith)
+    shown_reads (length story.log) way next_file logs story state (image_read state) (way_seen way place next_file logs story state one_to_one read is goes roots stored)
 
 pub keeping_stands : KeepingStands
 keeping_stands ways place logs levels story next_file state one_to_one keeps = record {

@@ -17,7 +17,7 @@ use Rattle.keel_machine.specs.declared.answers.Start.TheVariants as start
 use Rattle.keel_machine.specs.Admission.{standing, stopping}
 use Rattle.keel_machine.specs.Flushing.{is_work_stopped}
 use Rattle.keel_machine.specs.Starting.{StartAnswers, beyond, forgotten, group_turned, is_number_spent, is_resuming, job_started, severity, start_after}
-use Rattle.keel_machine.specs.States.{State, Phase, Shut, Booting, Open, Group, Resumption, Segment, SegmentLog, Story, is_left, with_device}
+use Rattle.keel_machine.specs.States.{State, Phase, Shut, Booting, Open, Closing, Group, Resumption, Segment, SegmentLog, Story, is_closing, is_left, with_device}
 use Rattle.keel_machine.specs.Tests.{first_some, when}
 use Rattle.keel_recovery.specs.BootCalls.{BootKept, RunsSo}
 use Rattle.keel_recovery.specs.Flushes.{FlushesBy}
@@ -36,6 +36,12 @@ record NoneHeld (work resuming one : Bool) (hard : Option Start) : Type 0 where
   resuming_is : resuming ≡ false
   hard_is : hard ≡ None
   one_is : one ≡ false
+
+-- behind the test whether the store was closed
+not_closed : (closing : Bool) (rest : List (Option Start)) (other answer : Start) → (answer ≡ start.Closing → ⊥) → answer ≡ unwrap_or (first_some (when closing start.Closing ∷ rest)) other
+    → (closing ≡ false) × (answer ≡ unwrap_or (first_some rest) other)
+not_closed true rest other answer differs is = absurd (differs is)
+not_closed false rest other answer differs is = (refl, is)
 
 started_by : (work resuming one spent : Bool) (number severe next job : ℕ) (failure : Option Failure)
     → start.Started job ≡ unwrap_or (first_some (when (not work) start.Nothing ∷ when resuming (start.Busy number) ∷ beyond severe failure ∷ when one start.Cleared ∷ when spent (start.Spent JobNumber) ∷ [])) (start.Started next)
@@ -103,13 +109,14 @@ work_by paranoid auto None is = never (sym is)
 work_by paranoid auto (Some failure) is = refl
 
 -- where a resume is started writes are stopped
-started_stops : (s : State) (job : ℕ) → StartAnswers s (start.Started job) → (is_some (stopping s) ≡ true) × (is_resuming s ≡ false)
+started_stops : (s : State) (job : ℕ) → StartAnswers s (start.Started job) → (is_some (stopping s) ≡ true) × (is_resuming s ≡ false) × (is_closing s.mode.phase ≡ false)
 started_stops s job is =
-    let held = started_by (is_work_stopped s) (is_resuming s) (severity s == 1) (is_number_spent s.jobs) s.jobs.resume.number (severity s) (s.jobs.resume.number + 1) job (standing s) is in
+    let first = not_closed (is_closing s.mode.phase) _ (start.Started (s.jobs.resume.number + 1)) (start.Started job) (λ e. cc) is in
+    let held = started_by (is_work_stopped s) (is_resuming s) (severity s == 1) (is_number_spent s.jobs) s.jobs.resume.number (severity s) (s.jobs.resume.number + 1) job (standing s) first.1 in
     let some = work_by s.options.paranoid s.options.auto (standing s) held.work_is in
     let bad : 1 ≤ severity s = stands_bad s.options.paranoid s.failing.failures some in
     let two : 2 ≤ severity s = over (severity s) bad held.one_is in
-    (severe_is s.options.paranoid (standing s) ∙ le-leb 2 (severity s) two, held.resuming_is)
+    (severe_is s.options.paranoid (standing s) ∙ le-leb 2 (severity s) two, held.resuming_is, first.0)
   where
     over : (severe : ℕ) → 1 ≤ severe → (severe == 1) ≡ false → 2 ≤ severe
     over zero some not_one = absurd (omega (arith, some))
@@ -118,7 +125,8 @@ started_stops s job is =
 
 cleared_soft : (s : State) → StartAnswers s start.Cleared → (is_some (stopping s) ≡ false) × (is_resuming s ≡ false)
 cleared_soft s is =
-    let held = cleared_by (is_work_stopped s) (is_resuming s) (severity s == 1) (is_number_spent s.jobs) s.jobs.resume.number (severity s) (s.jobs.resume.number + 1) (standing s) is in
+    let first = not_closed (is_closing s.mode.phase) _ (start.Started (s.jobs.resume.number + 1)) start.Cleared (λ e. cc) is in
+    let held = cleared_by (is_work_stopped s) (is_resuming s) (severity s == 1) (is_number_spent s.jobs) s.jobs.resume.number (severity s) (s.jobs.resume.number + 1) (standing s) first.1 in
     (severe_is s.options.paranoid (standing s) ∙ ap (nat_le 2) (eqb-true (severity s) 1 held.1), held.0)
 
 none_of_it : (o : Option Failure) → is_some o ≡ false → o ≡ None
@@ -178,18 +186,20 @@ boot_started s state device failure k = record {
   no_flush = refl;
 }
 
-started_kept : (s : State) (device : Seen) (failure : Failure) (phase : Phase) (left : Bool) (state : Disk) → is_some (stopping s) ≡ true → is_resuming s ≡ false → KeptBy phase left state s
+started_kept : (s : State) (device : Seen) (failure : Failure) (phase : Phase) (left : Bool) (state : Disk) → is_some (stopping s) ≡ true → is_resuming s ≡ false → is_closing phase ≡ false → KeptBy phase left state s
     → KeptBy phase left state (with_device device (job_started (group_turned (Some failure) s)))
-started_kept s device failure Shut false state stopped idle h = h
-started_kept s device failure Shut true state stopped idle h = h
-started_kept s device failure Booting left state stopped idle h =
+started_kept s device failure Shut false state stopped idle stays h = h
+started_kept s device failure Shut true state stopped idle stays h = h
+started_kept s device failure Closing left state stopped idle stays h = never stays
+started_kept s device failure Booting left state stopped idle stays h =
     record { one_to_one = h.one_to_one; cuts = h.cuts; kept = boot_started s state device failure h.kept; none_waits = h.none_waits }
-started_kept s device failure Open left state stopped idle (inr h) =
+started_kept s device failure Open left state stopped idle stays (inr h) =
     inr (record { one_to_one = h.one_to_one; cuts = h.cuts; kept = boot_started s state device failure h.kept; stopped = stopped })
-started_kept s device failure Open left state stopped idle (inl h) = inl (record {
+started_kept s device failure Open left state stopped idle stays (inl h) = inl (record {
   one_to_one = h.one_to_one;
   cuts = h.cuts;
   uncut = h.uncut;
+  listed = h.listed;
   numbered = h.numbered;
   none_boots = refl;
   calm = λ started. record { no_group = refl; no_flush = refl; stopped = stopped };
@@ -219,11 +229,20 @@ forgets_kept s device Shut false state soft idle h = h
 forgets_kept s device Shut true state soft idle h = h
 forgets_kept s device Booting left state soft idle h =
     record { one_to_one = h.one_to_one; cuts = h.cuts; kept = boot_forgets s state device (idle_of s.jobs.started s.jobs.resume.running idle).1 h.kept; none_waits = h.none_waits }
+forgets_kept s device Closing left state soft idle h = record {
+  left = h.left;
+  bears = record { tables = h.bears.tables; said = h.bears.said; says = h.bears.says };
+  none_waits = h.none_waits;
+  no_group = h.no_group;
+  no_boot = h.no_boot;
+  unstarted = h.unstarted;
+}
 forgets_kept s device Open left state soft idle (inr h) = never (sym h.stopped ∙ soft)
 forgets_kept s device Open left state soft idle (inl h) = inl (record {
   one_to_one = h.one_to_one;
   cuts = h.cuts;
   uncut = h.uncut;
+  listed = h.listed;
   numbered = h.numbered;
   none_boots = h.none_boots;
   calm = λ started. never (sym started ∙ (idle_of s.jobs.started s.jobs.resume.running idle).0);
@@ -237,16 +256,17 @@ forgets_kept s device Open left state soft idle (inl h) = inl (record {
 started_keeps : (s : State) (job : ℕ) (device : Seen) → StartAnswers s (start.Started job) → device.told ≡ s.device.told → IsCovered s → IsCovered (with_device device (start_after s (start.Started job)))
 started_keeps s job device a same h = by (standing s) refl
   where
-    stops : (is_some (stopping s) ≡ true) × (is_resuming s ≡ false)
+    stops : (is_some (stopping s) ≡ true) × (is_resuming s ≡ false) × (is_closing s.mode.phase ≡ false)
     stops = started_stops s job a
 
     by : (failure : Option Failure) → standing s ≡ failure → IsCovered (with_device device (job_started (group_turned failure s)))
     by None none = never (sym stops.0 ∙ ap (λ (o : Option Failure). is_some (where_severe s.options.paranoid o)) none)
     by (Some failure) is =
         quiet_keeps s (with_device device (job_started (group_turned (Some failure) s))) refl same
-        (λ state kept. started_kept s device failure s.mode.phase (is_left s.mode.left) state stops.0 stops.1 kept) h
+        (λ state kept. started_kept s device failure s.mode.phase (is_left s.mode.left) state stops.0 stops.1 stops.2 kept) h
 
 pub start_keeps : (s : State) (answer : Start) (device : Seen) → StartAnswers s answer → device.told ≡ s.device.told → IsCovered s → IsCovered (with_device device (start_after s answer))
+start_keeps s start.Closing device a same h = as_it_is s device same h
 start_keeps s start.Nothing device a same h = as_it_is s device same h
 start_keeps s (start.Busy job) device a same h = as_it_is s device same h
 start_keeps s (start.Beyond failure) device a same h = as_it_is s device same h

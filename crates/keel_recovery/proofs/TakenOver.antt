@@ -26,13 +26,13 @@ use Rattle.keel_version.specs.Applying.{applied, no_less, renumbered, each_fits,
 use Rattle.keel_version.specs.Tables.{Contents, nothing}
 use Rattle.keel_recovery.specs.Booting.{IsOldTable}
 use Rattle.keel_recovery.specs.BootCalls.{BootKept, IsUnmoved, RunsSo, joined}
-use Rattle.keel_recovery.specs.Machine.{HasLog, HoldsBy, IsCalm, IsKept}
+use Rattle.keel_recovery.specs.Machine.{Bears, HasLog, HoldsBy, IsCalm, IsKept}
 use Rattle.keel_recovery.specs.Roots.{AreFirmTables, IsWay, Way, point_at, then_behind, version_behind}
-use Rattle.keel_recovery.proofs.Bearing.{Bears, full_batches, joined_push, kept_bears, same_front, segment_rows_are}
+use Rattle.keel_recovery.proofs.Bearing.{full_batches, joined_push, kept_bears, same_front, segment_rows_are}
 use Rattle.keel_recovery.proofs.BootTaken.{just_taken, taken_unmoved}
 use Rattle.keel_recovery.proofs.FlushEditing.{only_way}
 use Rattle.keel_recovery.proofs.Following.{batches_push}
-use Rattle.keel_recovery.proofs.Kept.{kept_stands}
+use Rattle.keel_recovery.proofs.Left.{kept_left}
 use Rattle.keel_recovery.proofs.Numbering.{folded_append, front_batches, seq_folded}
 
 some_none : {A P : Type 0} (x : A) → Some x ≡ None → P
@@ -132,7 +132,7 @@ module _ (s : State) (state : Disk) (drafts : List Draft) (h : IsKept state s) (
         record {
           bound = length state.files;
           old = state;
-          booting = just_taken s.levels story s.numbers.next_file state h.one_to_one h.uncut (kept_stands state s h) l.keeps.read (tables_there state h.one_to_one s.levels l.keeps.live.firm) l.keeps.drawn;
+          booting = just_taken s.levels story s.numbers.next_file state (kept_left state s h) (tables_there state h.one_to_one s.levels l.keeps.live.firm) l.keeps.drawn;
           floor_within = stored.floor_within;
           numbered = h.numbered;
           bare = λ count none. let goes = l.keeps.go count in some_none goes.3.current (sym goes.3.named ∙ none);

@@ -15,7 +15,7 @@ use Rattle.keel_machine.specs.declared.steps.WriteStep.{WriteStep}
 use Rattle.keel_machine.specs.declared.steps.WriteStep.TheVariants as step
 use Rattle.keel_machine.specs.Admission.{AdmitAnswers, batches_of_group, ops_of, size_refusal, refusals, refusal, seq_with, is_sequence_spent, stopping, queued, admit_after}
 use Rattle.keel_machine.specs.Outside.{as_answer}
-use Rattle.keel_machine.specs.States.{State, Phase, Shut, Booting, Open, is_open, is_left, is_booting, Mode, Resumption, Group, Act, CloseLog, MakeLog, SyncDirectory, AddRecords, SyncLog, left_of, point_of, with_device}
+use Rattle.keel_machine.specs.States.{State, Phase, Shut, Booting, Open, Closing, is_open, is_left, is_booting, is_closing, Mode, Resumption, Group, Act, CloseLog, MakeLog, SyncDirectory, AddRecords, SyncLog, left_of, point_of, with_device}
 use Rattle.keel_machine.specs.Writing.{started, started_or, ready, write_rest, change_of}
 use Rattle.keel_machine.specs.WritingAfter.{WriteAnswers, MadeCall, call_done, call_failed, failure_of, queue_turned, write_after}
 use Rattle.keel_machine.proofs.FirstTests.{none_some, none_mapped, none_when, none_of}
@@ -23,6 +23,7 @@ use Rattle.keel_group.specs.Queue.{Ticketed}
 use Rattle.keel_draft.specs.Drafts.{count_ops}
 use Rattle.keel_recovery.specs.BootCalls.{BootKept, RunsSo}
 use Rattle.keel_recovery.specs.Machine.{IsCalm, IsKept, KeptBy, IsCovered}
+use Rattle.keel_recovery.proofs.Listing.{TakesNone, listed_stays}
 use Rattle.keel_recovery.proofs.NoCuts.{CutsNothing, no_cuts_stay}
 use Rattle.keel_recovery.specs.Waiting.{ops_waiting}
 use Rattle.keel_recovery.proofs.Ordering.{went_well, went_wrong}
@@ -90,6 +91,7 @@ ready_kept state s held none h =
       one_to_one = h.one_to_one;
       cuts = h.cuts;
       uncut = h.uncut;
+      listed = h.listed;
       numbered = omega (arith, h.numbered, same.files);
       none_boots = same.resume ∙ h.none_boots;
       calm = λ is. let c = h.calm (sym same.started ∙ is) in none_while_stopped s held none c.no_group c.stopped;
@@ -101,6 +103,7 @@ ready_kept state s held none h =
 pub kept_open : (phase : Phase) (left : Bool) (state : Disk) (s : State) (held : Option ℕ) (group : Group) → write_rest s held ≡ None → is_open phase ≡ true → (ready s).jobs.write.running ≡ Some group → KeptBy phase left state s → (phase ≡ Open) × IsKept state s
 kept_open Shut left state s held group none is runs h = cc
 kept_open Booting left state s held group none is runs h = no_group_made s group h.none_waits h.kept.no_group runs
+kept_open Closing left state s held group none is runs h = no_group_made s group h.none_waits h.no_group runs
 kept_open Open left state s held group none is runs (inl h) = (refl, h)
 kept_open Open left state s held group none is runs (inr h) = none_while_stopped s held none h.kept.no_group h.stopped
 
@@ -141,6 +144,14 @@ group_cuts s group SyncDirectory = tt
 group_cuts s group AddRecords = tt
 group_cuts s group SyncLog = tt
 
+-- nor does it take a name away
+group_takes : (s : State) (group : Group) (act : Act) (state : Disk) → TakesNone (change_of s group act) state
+group_takes s group CloseLog state = tt
+group_takes s group MakeLog state = tt
+group_takes s group SyncDirectory state = tt
+group_takes s group AddRecords state = tt
+group_takes s group SyncLog state = tt
+
 -- while a group is in flight no resume is asked for
 none_asked : {P : Type 0} (s next : State) (group : Group) → s.jobs.write.running ≡ Some group → next.jobs.started ≡ s.jobs.started → (s.jobs.started ≡ true → IsCalm s) → next.jobs.started ≡ true → P
 none_asked s next group runs same calm is = none_some group (sym runs ∙ (calm (sym same ∙ is)).no_group)
@@ -159,6 +170,7 @@ done_keeps s held group act later device made is h =
       one_to_one = one_stays (change_of (ready s) group act) went_well before behind (gives_names s held group act later None device made kept.numbered) kept.one_to_one step;
       cuts = cuts_stay (change_of (ready s) group act) went_well before behind kept.one_to_one kept.cuts step;
       uncut = no_cuts_stay (change_of (ready s) group act) went_well before behind (group_cuts (ready s) group act) kept.uncut step;
+      listed = listed_stays (change_of (ready s) group act) went_well before behind (group_takes (ready s) group act before) kept.listed step;
       numbered = omega (arith, kept.numbered, (unmoved_done (ready s).jobs.write.running (ready s)).files);
       none_boots = (unmoved_done (ready s).jobs.write.running (ready s)).resume ∙ kept.none_boots;
       calm = none_asked (ready s) (with_device device (call_done s)) group made.makes.group_is (unmoved_done (ready s).jobs.write.running (ready s)).started kept.calm;
@@ -175,6 +187,7 @@ failed_keeps s held failure group act later fault device failure_is made is h =
       one_to_one = one_stays (change_of (ready s) group act) (went_wrong fault) before behind (gives_names s held group act later (Some fault) device made kept.numbered) kept.one_to_one step;
       cuts = cuts_stay (change_of (ready s) group act) (went_wrong fault) before behind kept.one_to_one kept.cuts step;
       uncut = no_cuts_stay (change_of (ready s) group act) (went_wrong fault) before behind (group_cuts (ready s) group act) kept.uncut step;
+      listed = listed_stays (change_of (ready s) group act) (went_wrong fault) before behind (group_takes (ready s) group act before) kept.listed step;
       numbered = omega (arith, kept.numbered, (unmoved_failed (ready s).jobs.write.running (failure_of fault) (ready s)).files);
       none_boots = (unmoved_failed (ready s).jobs.write.running (failure_of fault) (ready s)).resume ∙ kept.none_boots;
       calm = none_asked (ready s) (with_device device (call_failed (failure_of fault) s)) group made.makes.group_is (unmoved_failed (ready s).jobs.write.running (failure_of fault) (ready s)).started kept.calm;
@@ -188,11 +201,20 @@ turned_kept : (phase : Phase) (left : Bool) (state : Disk) (s : State) (failure 
 turned_kept Shut false state s failure device h = h
 turned_kept Shut true state s failure device h = h
 turned_kept Booting left state s failure device h = record { one_to_one = h.one_to_one; cuts = h.cuts; kept = turned_boot state s failure device h.kept; none_waits = refl }
+turned_kept Closing left state s failure device h = record {
+  left = h.left;
+  bears = record { tables = h.bears.tables; said = h.bears.said; says = h.bears.says };
+  none_waits = refl;
+  no_group = h.no_group;
+  no_boot = h.no_boot;
+  unstarted = h.unstarted;
+}
 turned_kept Open left state s failure device (inr h) = inr (record { one_to_one = h.one_to_one; cuts = h.cuts; kept = turned_boot state s failure device h.kept; stopped = h.stopped })
 turned_kept Open left state s failure device (inl h) = inl (record {
   one_to_one = h.one_to_one;
   cuts = h.cuts;
   uncut = h.uncut;
+  listed = h.listed;
   numbered = h.numbered;
   none_boots = h.none_boots;
   calm = λ is. let c = h.calm is in record { no_group = c.no_group; no_flush = c.no_flush; stopped = c.stopped };
@@ -221,17 +243,22 @@ sizes_none s batch none = (none_of (refusals s batch) none).0
 within_sequences : (s : State) (batch : Batch) → refusal s batch ≡ None → seq_with s batch ≤ 2 ^ 56
 within_sequences s batch none =
     let answer : Admit = admit.Spent Sequence in
-    ltb-false (2 ^ 56) (seq_with s batch) (none_when (is_sequence_spent s batch) answer (none_of (refusals s batch) none).1.1.1.0)
+    ltb-false (2 ^ 56) (seq_with s batch) (none_when (is_sequence_spent s batch) answer (none_of (refusals s batch) none).1.1.1.1.0)
 
 not_booting : (s : State) (batch : Batch) → refusal s batch ≡ None → is_booting s.mode.phase ≡ false
 not_booting s batch none =
     let answer : Admit = admit.Booting in
-    none_when (is_booting s.mode.phase) answer (none_of (refusals s batch) none).1.0
+    none_when (is_booting s.mode.phase) answer (none_of (refusals s batch) none).1.1.0
+
+not_closing : (s : State) (batch : Batch) → refusal s batch ≡ None → is_closing s.mode.phase ≡ false
+not_closing s batch none =
+    let answer : Admit = admit.Closing in
+    none_when (is_closing s.mode.phase) answer (none_of (refusals s batch) none).1.0
 
 not_stopped : (s : State) (batch : Batch) → refusal s batch ≡ None → stopping s ≡ None
 not_stopped s batch none =
     let stops : Failure → Admit = admit.Stopped in
-    none_mapped stops (stopping s) (none_of (refusals s batch) none).1.1.0
+    none_mapped stops (stopping s) (none_of (refusals s batch) none).1.1.1.0
 
 fewer : (last limbo group waiting more most : ℕ) → last + (limbo + group + waiting) + more ≤ most → last + waiting + more ≤ most
 fewer last limbo group waiting more most h = omega (arith, h)
@@ -249,6 +276,7 @@ queued_open state s batch device limits most waits h = record {
   one_to_one = h.one_to_one;
   cuts = h.cuts;
   uncut = h.uncut;
+  listed = h.listed;
   numbered = h.numbered;
   none_boots = h.none_boots;
   calm = λ asked. let c = h.calm asked in record { no_group = c.no_group; no_flush = c.no_flush; stopped = c.stopped };
@@ -267,13 +295,14 @@ queued_stopped s batch none stopped = never (sym (ap (λ (o : Option Failure). i
 not_false : true ≡ false → ⊥
 not_false e = cc
 
-queued_kept : (phase : Phase) (left : Bool) (state : Disk) (s : State) (batch : Batch) (device : Seen) → is_booting phase ≡ false → refusal s batch ≡ None → KeptBy phase left state s
+queued_kept : (phase : Phase) (left : Bool) (state : Disk) (s : State) (batch : Batch) (device : Seen) → is_booting phase ≡ false → is_closing phase ≡ false → refusal s batch ≡ None → KeptBy phase left state s
     → KeptBy phase left state (with_device device (queued batch s))
-queued_kept Shut false state s batch device is none h = h
-queued_kept Shut true state s batch device is none h = h
-queued_kept Booting left state s batch device is none h = absurd (not_false is)
-queued_kept Open left state s batch device is none (inr h) = queued_stopped s batch none h.stopped
-queued_kept Open left state s batch device is none (inl h) =
+queued_kept Shut false state s batch device is stays none h = h
+queued_kept Shut true state s batch device is stays none h = h
+queued_kept Booting left state s batch device is stays none h = absurd (not_false is)
+queued_kept Closing left state s batch device is stays none h = absurd (not_false stays)
+queued_kept Open left state s batch device is stays none (inr h) = queued_stopped s batch none h.stopped
+queued_kept Open left state s batch device is stays none (inl h) =
     let limits = sizes_within batch (sizes_none s batch none) in
     inl (queued_open state s batch device limits (within_sequences s batch none)
     (queued_waits (point_of s.story).seq s.writing.waiting (s.writing.last_ticket + 1) batch limits (waiting_within s batch none) h.waits) h)
@@ -281,8 +310,9 @@ queued_kept Open left state s batch device is none (inl h) =
 pub admit_keeps : (s : State) (batch : Batch) (answer : Admit) (device : Seen) → AdmitAnswers s batch answer → device.told ≡ s.device.told → IsCovered s
     → IsCovered (with_device device (admit_after s batch answer))
 admit_keeps s batch (admit.Queued ticket) device a same h =
-    quiet_keeps s (with_device device (queued batch s)) refl same (λ state. queued_kept s.mode.phase (is_left s.mode.left) state s batch device (not_booting s batch a.0) a.0) h
+    quiet_keeps s (with_device device (queued batch s)) refl same (λ state. queued_kept s.mode.phase (is_left s.mode.left) state s batch device (not_booting s batch a.0) (not_closing s batch a.0) a.0) h
 admit_keeps s batch (admit.BadSize part size) device a same h = as_it_is s device same h
+admit_keeps s batch admit.Closing device a same h = as_it_is s device same h
 admit_keeps s batch admit.Booting device a same h = as_it_is s device same h
 admit_keeps s batch (admit.Stopped failure) device a same h = as_it_is s device same h
 admit_keeps s batch (admit.Spent counter) device a same h = as_it_is s device same h

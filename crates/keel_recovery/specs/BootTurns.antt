@@ -14,6 +14,7 @@ use Rattle.keel_recovery.specs.Calls.{AllReach, CanGrow}
 use Rattle.keel_recovery.specs.Chains.{Chained}
 use Rattle.keel_recovery.specs.Flushes.{HasFlush}
 use Rattle.keel_recovery.specs.Keeping.{Keeps}
+use Rattle.keel_recovery.specs.Readings.{AreListed}
 use Rattle.keel_recovery.specs.Roots.{Way}
 use Rattle.keel_draft.specs.Drafts.{Draft}
 use Rattle.keel_resume.specs.Plans.{Act, change_of, failure_of}
@@ -30,6 +31,7 @@ pub record IsCleared (s : State) (state : Disk) : Type 0 where
   pub keeps : Keeps (way ∷ []) (length s.story.log) (cleared_log log s ∷ []) s.levels s.story s.numbers.next_file state
   pub grows : CanGrow [] (cleared_log log s) 0 state
   pub uncut : NoCuts state
+  pub listed : AreListed state
   pub reach : AllReach (way ∷ []) log
   pub flushes : HasFlush way s.levels s.numbers.in_tables (cleared_log log s ∷ []) None None s.numbers.next_file s.numbers.manifest state
 

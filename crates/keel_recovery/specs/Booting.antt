@@ -5,12 +5,16 @@ use Rattle.keel_base.specs.declared.file_name.FileName.{FileName}
 use Rattle.keel_base.specs.declared.file_name.FileName.TheVariants.{Log, Table, Trash, Current}
 use Rattle.keel_disk.specs.Directory.{Named, find}
 use Rattle.keel_disk.specs.State.{State, directory_read, file_at, has_waiting_cut, settled_through}
+use Rattle.keel_disk.specs.Plain.{image_read}
 use Rattle.keel_disk.specs.Steady.{AllRead, IsHeld, IsSteady, file_behind}
+use Rattle.keel_directory.specs.Reading.{Reading, IsReading}
 use Rattle.keel_directory.specs.Standing.{StandsRead}
 use Rattle.keel_directory.specs.TableFiles.{TableFile, open_sized}
+use Rattle.keel_machine.specs.Opening.{tables_in}
 use Rattle.keel_machine.specs.Resuming.{cleared_story}
 use Rattle.keel_machine.specs.States.{Story}
 use Rattle.keel_open.specs.NextFiles.{number_in}
+use Rattle.keel_recovery.specs.Readings.{AreListed, ReadsWithin}
 use Rattle.keel_recovery.specs.Roots.{Way, IsWay, Goes, IsRoot}
 
 -- ---- the device as it was when the job began
@@ -51,6 +55,10 @@ pub record IsOldTable (bound : ℕ) (state : State) (table : TableFile) : Type 0
   pub held : IsHeld (file_at file state.files) table.bytes
   pub opens : open_sized table.entry.size table.bytes ≡ Ok table.file
 
+-- the tables of the directory as that device is read are there whatever operations are done
+abbrev pub ReadsSteady : ℕ → State → State → Type 0
+ReadsSteady bound old state = (reading : Reading) → IsReading (image_read old) reading → AllByRecursion (IsOldTable bound state) (tables_in reading)
+
 -- The job began with that device, which had so many files and stood for the story. Whatever operations are done, CURRENT has
 -- the manifest of a roll, or what was made since is in no reading; and reads give what was meant.
 pub record IsBooting (bound : ℕ) (old : State) (levels : List TableFile) (story : Story) (next_file : ℕ) (state : State) : Type 0 where
@@ -69,3 +77,6 @@ pub record IsBooting (bound : ℕ) (old : State) (levels : List TableFile) (stor
   pub tables : AllByRecursion (IsOldTable bound state) levels
   pub drawn : (count file : ℕ) (name : FileName) → file_behind count name state ≡ Some file → number_in name < next_file
   pub read : AllRead state
+  pub listed : AreListed state
+  pub read_within : ReadsWithin old
+  pub read_steady : ReadsSteady bound old state

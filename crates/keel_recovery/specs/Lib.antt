@@ -2,7 +2,9 @@ pub mod Standing
 pub mod Chains
 pub mod Roots
 pub mod Keeping
+pub mod Readings
 pub mod Booting
+pub mod Leaving
 pub mod Waiting
 pub mod Laws
 pub mod BootLaws

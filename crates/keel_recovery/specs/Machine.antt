@@ -1,15 +1,17 @@
 -- The states of the machine whose device stands for their story, and that every turn keeps them so.
-use Rattle.std.specs.Prelude.{◌≡◌, ◌⊎◌, ℕ, ◌-◌, ◌^◌, ◌<◌, ◌≤◌, Bool, true, false, List, [], ◌∷◌, ◌++◌, Option, Some, None, is_some, if◌then◌else◌, Err, Ok}
+use Rattle.std.specs.List.{AllByRecursion}
+use Rattle.std.specs.Prelude.{◌≡◌, ◌⊎◌, ℕ, ◌-◌, ◌^◌, ◌<◌, ◌≤◌, Bool, true, false, List, [], ◌∷◌, ◌++◌, length, Option, Some, None, is_some, if◌then◌else◌, Err, Ok}
 use Rattle.keel_base.specs.declared.failure.Failure.{Failure}
 use Rattle.keel_base.specs.declared.failure.Fault.{Fault}
 use Rattle.keel_base.specs.declared.memory.OutOfMemory.{OutOfMemory}
 use Rattle.keel_base.specs.declared.op.Batch.{Batch}
 use Rattle.keel_base.specs.declared.op.Op.{Op}
+use Rattle.keel_base.specs.Rows.{IsMapOf}
 use Rattle.keel_batch.specs.Batches.{AreBatches}
 use Rattle.keel_directory.specs.Reading.{Reading, IsReading, new, held, refused}
-use Rattle.keel_directory.specs.Sound.{IsSoundReading}
+use Rattle.keel_directory.specs.Sound.{IsAsSaid, IsSoundReading}
 use Rattle.keel_directory.specs.Standing.{ReadsAs}
-use Rattle.keel_directory.specs.TableFiles.{TableFile}
+use Rattle.keel_directory.specs.TableFiles.{TableFile, Opens}
 use Rattle.keel_disk.specs.declared.change.Change.{Change}
 use Rattle.keel_disk.specs.State.{State as Disk}
 use Rattle.keel_disk.specs.Plain.{image_read}
@@ -27,27 +29,28 @@ use Rattle.keel_machine.specs.Admission.{stopping}
 use Rattle.keel_machine.specs.Crash.{CrashAnswers, has_story}
 use Rattle.keel_base.specs.declared.options.Options.{Options}
 use Rattle.keel_machine.specs.Opening.{Found, OpenAnswers, continues, opened}
-use Rattle.keel_machine.specs.Reads.{BearsOut}
+use Rattle.keel_machine.specs.Reads.{BearsOut, contents, rows_of}
 use Rattle.keel_group.specs.Queue.{Ticketed}
-use Rattle.keel_machine.specs.States.{State, Footing, Known, Unknown, Mode, Phase, Shut, Booting, Open, is_open, is_left, unopened, Story, SegmentLog, Segment, Segments, Numbers, Group, Act, CloseLog, MakeLog, SyncDirectory, AddRecords, SyncLog, left_of, point_of}
+use Rattle.keel_machine.specs.States.{State, Footing, Known, Unknown, Mode, Phase, Shut, Booting, Open, Closing, is_open, is_left, unopened, Story, SegmentLog, Segment, Segments, Numbers, Group, Act, CloseLog, MakeLog, SyncDirectory, AddRecords, SyncLog, left_of, joined_story, point_of}
 use Rattle.keel_machine.specs.declared.steps.ResumeStep.{ResumeStep}
 use Rattle.keel_machine.specs.declared.steps.ResumeStep.TheVariants as resume_step
 use Rattle.keel_machine.specs.declared.steps.JobStep.{JobStep}
 use Rattle.keel_machine.specs.declared.steps.JobStep.TheVariants as job_step
 use Rattle.keel_machine.specs.declared.steps.WriteStep.{WriteStep}
 use Rattle.keel_machine.specs.declared.steps.WriteStep.TheVariants as step
-use Rattle.keel_machine.specs.Turns.{Event, Opening, Writing, Resuming, Flushing, Listing, Arranging, Crashing, Finishing, Turn}
+use Rattle.keel_machine.specs.Turns.{Event, Opening, Writing, Resuming, Flushing, Listing, Arranging, Crashing, Turn}
 use Rattle.keel_machine.specs.Writing.{ready, change_of}
 use Rattle.keel_machine.specs.WritingAfter.{MadeCall, call_done, call_failed, failure_of}
 use Rattle.keel_draft.specs.Drafts.{Draft}
 use Rattle.keel_recovery.specs.BootCalls.{BootKept}
-use Rattle.keel_recovery.specs.BootLaws.{IsAfterCrash}
 use Rattle.keel_recovery.specs.Calls.{IsNewLog, AllReach, CanGrow}
 use Rattle.keel_recovery.specs.Chains.{Chained, IsWholeLog}
 use Rattle.keel_recovery.specs.Crashing.{InsideCall}
 use Rattle.keel_recovery.specs.Flushes.{HasFlush}
 use Rattle.keel_recovery.specs.Keeping.{Keeps}
+use Rattle.keel_recovery.specs.Leaving.{IsLeft}
 use Rattle.keel_recovery.specs.Booting.{NoCuts}
+use Rattle.keel_recovery.specs.Readings.{AreListed}
 use Rattle.keel_recovery.specs.Roots.{Way, point_at}
 use Rattle.keel_recovery.specs.Waiting.{AreOnTheirWay, ops_waiting}
 use Rattle.keel_recovery.specs.Standing.{Stands}
@@ -59,7 +62,6 @@ MayCall s (Opening options answer) = is_open s.mode.phase ≡ false
 MayCall s (Listing answer) = Unit {0}
 MayCall s (Crashing pick kept) = Unit {0}
 MayCall s (Arranging rule answer) = Unit {0}
-MayCall s Finishing = ⊥
 MayCall s event = is_open s.mode.phase ≡ true
 
 -- a reading is sound, where it isn't a refusal
@@ -172,6 +174,7 @@ pub record IsKept (state : Disk) (s : State) : Type 0 where
   pub one_to_one : IsOneToOne state
   pub cuts : CutsExist state
   pub uncut : NoCuts state
+  pub listed : AreListed state
   pub numbered : 1 ≤ s.numbers.next_file
   pub none_boots : s.jobs.resume.running ≡ None
   pub calm : s.jobs.started ≡ true → IsCalm s
@@ -185,18 +188,28 @@ pub record IsTakenOver (state : Disk) (s : State) : Type 0 where
   pub kept : BootKept s state
   pub stopped : is_some (stopping s) ≡ true
 
--- the device as a crash left it: at rest, and it stands for what is left of the story
-pub record IsLeft (state : Disk) (story : Story) : Type 0 where
-  pub at_rest : IsAtRest state
-  pub after_crash : IsAfterCrash story
-  pub stands : Stands state story
-
 -- the device of a store that boots, which takes no batches
 pub record IsBootingStore (state : Disk) (s : State) : Type 0 where
   pub one_to_one : IsOneToOne state
   pub cuts : CutsExist state
   pub kept : BootKept s state
   pub none_waits : s.writing.waiting ≡ []
+
+-- what reads ask of a device: it has the tables, which are whole, and with the batches of the segments they say what the store
+-- contains
+pub record Bears (state : Disk) (s : State) : Type 0 where
+  pub tables : AllByRecursion (λ (table : TableFile). Opens (image_read state) table.entry table) s.levels
+  pub said : AllByRecursion (IsAsSaid s.numbers.in_tables) s.levels
+  pub says : IsMapOf (rows_of s) (contents s)
+
+-- The device of a store that was closed: it may be left so, and reads are borne out. No job is under way, and nobody waits.
+pub record IsClosedStore (state : Disk) (s : State) : Type 0 where
+  pub left : IsLeft state s.story
+  pub bears : Bears state s
+  pub none_waits : s.writing.waiting ≡ []
+  pub no_group : s.jobs.write.running ≡ None
+  pub no_boot : s.jobs.resume.running ≡ None
+  pub unstarted : s.jobs.started ≡ false
 
 -- what is kept where no store is open: of one that was left, and where there is no story
 abbrev pub KeptShut : Bool → Disk → State → Type 0
@@ -206,6 +219,7 @@ KeptShut false state s = IsFirst state
 abbrev pub KeptBy : Phase → Bool → Disk → State → Type 0
 KeptBy Open left state s = IsKept state s ⊎ IsTakenOver state s
 KeptBy Booting left state s = IsBootingStore state s
+KeptBy Closing left state s = IsClosedStore state s
 KeptBy Shut left state s = KeptShut left state s
 
 -- a known device tells its state, and of it that is kept
@@ -227,12 +241,11 @@ TurnKeeps = (s next : State) (event : Event) → MayCall s event → Turn s even
 abbrev pub CoveredStands : Type 0
 CoveredStands = (s : State) → s.footing ≡ Known → has_story s.mode ≡ true → IsCovered s → StandsIn s.device.told s.story
 
--- an opening of a device at rest that stands for the story leaves a store that boots
+-- an opening of a device that was left, and stands for the story, leaves a store that boots
 abbrev pub OpeningBoots : Type 0
 OpeningBoots =
     (s : State) (options : Options) (found : Found) (device : Seen) (told : Told)
-    → s.device.told ≡ Some told → OpenAnswers s (Ok found) device → IsAtRest told.state
-    → IsAfterCrash (opened options found s).story → Stands told.state (opened options found s).story
+    → s.device.told ≡ Some told → OpenAnswers s (Ok found) device → IsLeft told.state (opened options found s).story
     → BootKept (opened options found s) told.state
 
 -- before a first opening, a device at rest is covered
@@ -251,10 +264,11 @@ abbrev pub CrashTurns : Type 0
 CrashTurns =
     (s : State) (pick : Pick) (device : Seen) → IsCovered s → Drops s pick device → (kept : Option ℕ) × CrashAnswers s pick kept device
 
--- where the story goes on, the directory reads as the point that it leads to
+-- where the story goes on, the directory reads as the point that it leads to with the first so many batches of its limbo
 pub record ReadsOn (told : Told) (story : Story) : Type 0 where
-  pub reads : ReadsAs (image_read told.state) (point_of story)
-  pub after_crash : IsAfterCrash story
+  pub joined : ℕ
+  pub within : joined ≤ length story.limbo
+  pub reads : ReadsAs (image_read told.state) (point_of (joined_story joined story))
 
 abbrev pub ReadsOnIn : Option Told → Story → Type 0
 ReadsOnIn None story = ⊥

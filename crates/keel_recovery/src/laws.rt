@@ -70,7 +70,7 @@ pub fn starts_covered()
     ensures { StartsCovered }
 {}
 
-/// An opening of a device at rest that stands for the story leaves a store that boots.
+/// An opening of a device that was left, and stands for the story, leaves a store that boots.
 pub fn opening_boots()
     ensures { OpeningBoots }
 {}
