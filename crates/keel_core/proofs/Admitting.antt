@@ -11,7 +11,7 @@ use Rattle.keel_disk.specs.Listings.{IsListing}
 use Rattle.keel_disk.specs.Told.{TellsListing}
 use Rattle.keel_disk.specs.Seen.{IsQuiet, Seen}
 use Rattle.keel_machine.specs.declared.answers.Admit.{Admit}
-use Rattle.keel_machine.specs.declared.answers.Admit.TheVariants.{BadSize, Booting, Full, OutOfMemory, Queued, Spent, Stopped, QueueFull}
+use Rattle.keel_machine.specs.declared.answers.Admit.TheVariants.{BadSize, Booting, Closing, Full, OutOfMemory, Queued, Spent, Stopped, QueueFull}
 use Rattle.keel_base.specs.declared.failure.Counter.TheVariants.{Sequence, Ticket}
 use Rattle.keel_machine.specs.declared.answers.Outcome.{Outcome}
 use Rattle.keel_machine.specs.declared.answers.Outcome.TheVariants as outcome
@@ -26,7 +26,7 @@ use Rattle.keel_draft.specs.Drafts.{count_ops}
 use Rattle.keel_core.specs.Flights.{FlightShown, IsPlanned, batches_flying, group_of, running_of, tickets_flying}
 use Rattle.keel_core.specs.Orders.{IsSettled}
 use Rattle.keel_core.specs.Queues.{on_its_way, outcome_told}
-use Rattle.keel_core.specs.Views.{Beyond, CoreView, StandsFor, Fits, IsOnPlan, TakesTurn, is_store_full, stopping_in, state_of, last_in, calls_in, has_booted, phase_if}
+use Rattle.keel_core.specs.Views.{Beyond, BootShown, ToStart, Started, Running, Cleared, Closed, CoreView, StandsFor, Fits, IsOnPlan, TakesTurn, is_store_full, stopping_in, state_of, last_in, calls_in, has_booted, is_closed, phase_if, phase_of}
 use Rattle.keel_core.proofs.Failing.{stopping_same}
 use Rattle.keel_core.proofs.Segmenting.{active_weighs, as_many}
 use Rattle.keel_core.proofs.Standing.{left_is}
@@ -56,7 +56,7 @@ same_ops : (group : Option FlightShown) → batches_of_group (running_of group) 
 same_ops None = refl
 same_ops (Some flight) = refl
 
-same_tickets : (group : Option FlightShown) → tickets_of_group (running_of group) ≡ tickets_flying group
+pub same_tickets : (group : Option FlightShown) → tickets_of_group (running_of group) ≡ tickets_flying group
 same_tickets None = refl
 same_tickets (Some flight) = refl
 
@@ -84,14 +84,14 @@ sums : (a b c d e f g h i j : ℕ) → a ≡ b → c ≡ a + d → d ≡ e → f
 sums a b c d e f g h i j p q r s t = omega arith
 
 -- the sequence that a batch would bring, of what the code knows
-seq_is : (view : CoreView) (batch : Batch) (last_seq handed_seq : ℕ) (beyond : Beyond) → Fits view beyond
+seq_is : (view : CoreView) (batch : Batch) (last_seq handed_seq : ℕ) (beyond : Beyond) → has_booted view.boot ≡ true → Fits view beyond
     → last_seq ≡ last_in view → handed_seq ≡ last_seq + count_ops view.trail.limbo
     → handed_seq + (count_ops (ops_of (batches_flying view.group)) + count_ops (ops_of (batches_of view.waiting))) + length batch.ops ≡ seq_with (state_of view beyond) batch
-seq_is view batch last_seq handed_seq beyond fits last handed =
+seq_is view batch last_seq handed_seq beyond booted fits last handed =
     sums last_seq _ handed_seq (count_ops view.trail.limbo) (count_ops beyond.story.limbo) (count_ops (ops_of (batches_flying view.group)))
     (count_ops (ops_of (batches_of_group (running_of view.group)))) (count_ops (ops_of (batches_of view.waiting)))
     (count_ops (map (λ (member : Ticketed). member.batch.ops) view.waiting)) (length batch.ops)
-    (last ∙ sym (last_same view.trail beyond.story fits.story)) handed (ap count_ops (sym fits.story.limbo_is))
+    (last ∙ sym (last_same view.trail beyond.story fits.story)) handed (ap count_ops (sym (fits.story.limbo_is booted)))
     (ap (λ (l : List Batch). count_ops (ops_of l)) (sym (same_ops view.group)))
     (sym (waiting_ops view.waiting))
 
@@ -100,6 +100,7 @@ seq_is view batch last_seq handed_seq beyond fits last handed =
 -- what the tests say, one answer each
 pub record Tests : Type 0 where
   pub size : Option Admit
+  pub closing : Bool
   pub booting : Bool
   pub stopping : Option Failure
   pub sequence : Bool
@@ -113,6 +114,7 @@ pub record Tests : Type 0 where
 abbrev pub answer_of : Tests → Option Admit
 answer_of t = first_some (
     t.size
+    ∷ when t.closing Closing
     ∷ when t.booting Booting
     ∷ option_map Stopped t.stopping
     ∷ when t.sequence (Spent Sequence)
@@ -125,6 +127,7 @@ answer_of t = first_some (
 abbrev pub tests_of : CoreView → Batch → ℕ → Tests
 tests_of view batch brought = record {
   size = size_refusal batch;
+  closing = false;
   booting = false;
   stopping = stopping_in view;
   sequence = nat_lt (2 ^ 56) brought;
@@ -142,21 +145,39 @@ seq_brought view batch handed_seq = handed_seq + (count_ops (ops_of (batches_fly
 
 -- what the code knows of its numbers, where the boot has cleared
 pub record IsKnown (view : CoreView) (last_seq handed_seq : ℕ) : Type 0 where
+  pub stays : is_closed view.boot ≡ false
   pub booted : has_booted view.boot ≡ true
   pub last : last_seq ≡ last_in view
   pub handed : handed_seq ≡ last_seq + count_ops view.trail.limbo
 
-refusal_is : (view : CoreView) (batch : Batch) (last_seq handed_seq : ℕ) (beyond : Beyond) → has_booted view.boot ≡ true → Fits view beyond
+-- the phase of a store that isn't closed
+pub phase_open : (boot : BootShown) → is_closed boot ≡ false → phase_of boot ≡ phase_if (has_booted boot)
+phase_open ToStart stays = refl
+phase_open (Started booted) stays = refl
+phase_open (Running booted running) stays = refl
+phase_open Cleared stays = refl
+phase_open (Closed booted) stays = cc
+
+phase_closed : (boot : BootShown) → is_closed boot ≡ true → phase_of boot ≡ machine.Closing
+phase_closed ToStart closed = cc
+phase_closed (Started booted) closed = cc
+phase_closed (Running booted running) closed = cc
+phase_closed Cleared closed = cc
+phase_closed (Closed booted) closed = refl
+
+refusal_is : (view : CoreView) (batch : Batch) (last_seq handed_seq : ℕ) (beyond : Beyond) → is_closed view.boot ≡ false → has_booted view.boot ≡ true → Fits view beyond
     → last_seq ≡ last_in view → handed_seq ≡ last_seq + count_ops view.trail.limbo
     → refusal (state_of view beyond) batch ≡ answer_of (tests_of view batch (seq_brought view batch handed_seq))
-refusal_is view batch last_seq handed_seq beyond booted fits last handed =
+refusal_is view batch last_seq handed_seq beyond stays booted fits last handed =
     let weight = active_weighs beyond.in_tables view.immutable beyond.immutable view.rows beyond.active _ fits.segments in
     let others = as_many beyond.in_tables view.immutable beyond.immutable view.rows beyond.active _ fits.segments in
     let stopping = stopping_same view.options beyond.failures view.handler fits.handled in
-    let seq = seq_is view batch last_seq handed_seq beyond fits last handed in
+    let seq = seq_is view batch last_seq handed_seq beyond booted fits last handed in
+    let phase : phase_of view.boot ≡ machine.Open = phase_open view.boot stays ∙ ap phase_if booted in
     λ i. answer_of (record {
       size = size_refusal batch;
-      booting = machine.is_booting (phase_if (booted i));
+      closing = machine.is_closing (phase i);
+      booting = machine.is_booting (phase i);
       stopping = stopping i;
       sequence = nat_lt (2 ^ 56) (sym seq i);
       ticket = nat_le (2 ^ 56) view.last_ticket;
@@ -172,6 +193,7 @@ same_stands view beyond fits = record { beyond = beyond; state_is = refl; fits =
 
 -- a refusal behind the test of the size
 abbrev pub IsRefusal : Admit → Type 0
+IsRefusal Closing = Unit {0}
 IsRefusal Booting = Unit {0}
 IsRefusal (Stopped failure) = Unit {0}
 IsRefusal (Spent counter) = Unit {0}
@@ -181,6 +203,7 @@ IsRefusal _ = ⊥
 
 refused_turn : (view : CoreView) (batch : Batch) (answer : Admit) (beyond : Beyond) → IsRefusal answer → Fits view beyond → refusal (state_of view beyond) batch ≡ Some answer
     → Answers (state_of view beyond) (Admitting batch answer) view.device × StandsFor view (after (state_of view beyond) (Admitting batch answer) view.device)
+refused_turn view batch Closing beyond refused fits is = ((is, refl), same_stands view beyond fits)
 refused_turn view batch Booting beyond refused fits is = ((is, refl), same_stands view beyond fits)
 refused_turn view batch (Stopped failure) beyond refused fits is = ((is, refl), same_stands view beyond fits)
 refused_turn view batch (Spent counter) beyond refused fits is = ((is, refl), same_stands view beyond fits)
@@ -193,7 +216,7 @@ refused_turn view batch OutOfMemory beyond refused fits is = absurd refused
 pub refused_goes : (view : CoreView) (batch : Batch) (last_seq handed_seq : ℕ) (answer : Admit) → IsKnown view last_seq handed_seq → IsRefusal answer
     → answer_of (tests_of view batch (seq_brought view batch handed_seq)) ≡ Some answer → TakesTurn view (Admitting batch answer) view
 refused_goes view batch last_seq handed_seq answer known refused is = turns_by_story view view (Admitting batch answer) (λ beyond fits.
-    refused_turn view batch answer beyond refused fits (refusal_is view batch last_seq handed_seq beyond known.booted fits known.last known.handed ∙ is))
+    refused_turn view batch answer beyond refused fits (refusal_is view batch last_seq handed_seq beyond known.stays known.booted fits known.last known.handed ∙ is))
 
 -- the tests before one say nothing
 pub answers_at : (t u : Tests) (answer : Admit) → t ≡ u → answer_of u ≡ Some answer → answer_of t ≡ Some answer
@@ -267,7 +290,7 @@ queued_goes view batch last_seq handed_seq t enough ticket room few =
     (λ beyond fits. (
       (
         (
-          refusal_is view batch last_seq handed_seq beyond t.known.booted fits t.known.last t.known.handed
+          refusal_is view batch last_seq handed_seq beyond t.known.stays t.known.booted fits t.known.last t.known.handed
               ∙ ap answer_of (calm_same view batch _ false false false false t.sized t.calm (not_lt (2 ^ 56) _ enough) (not_le (2 ^ 56) view.last_ticket ticket) room (not_le 64 (length view.waiting) few)),
           refl,
         ),
@@ -277,18 +300,25 @@ queued_goes view batch last_seq handed_seq t enough ticket room few =
     ))
 
 -- a store that boots takes none
-boots_first : (size booting : Option Admit) (rest : List (Option Admit)) → size ≡ None → booting ≡ Some Booting → first_some (size ∷ booting ∷ rest) ≡ Some Booting
-boots_first size booting rest none boots = λ i. first_some (none i ∷ boots i ∷ rest)
+abbrev phase_tests : Option Admit → machine.Phase → List (Option Admit) → Option Admit
+phase_tests size phase rest = first_some (size ∷ when (machine.is_closing phase) Closing ∷ when (machine.is_booting phase) Booting ∷ rest)
 
-booting_is : (view : CoreView) (batch : Batch) (beyond : Beyond) → has_booted view.boot ≡ false → size_refusal batch ≡ None
-    → refusal (state_of view beyond) batch ≡ Some Booting
-booting_is view batch beyond boots sized =
-    boots_first (size_refusal batch) (when (machine.is_booting (phase_if (has_booted view.boot))) Booting) _ sized
-    (ap (λ (b : Bool). when (machine.is_booting (phase_if b)) Booting) boots)
+boots_first : (size : Option Admit) (phase : machine.Phase) (rest : List (Option Admit)) → size ≡ None → phase ≡ machine.Booting → phase_tests size phase rest ≡ Some Booting
+boots_first size phase rest none boots = λ i. phase_tests (none i) (boots i) rest
 
-pub boots_goes : (view : CoreView) (batch : Batch) → has_booted view.boot ≡ false → size_refusal batch ≡ None → TakesTurn view (Admitting batch Booting) view
-boots_goes view batch boots sized = turns_by_story view view (Admitting batch Booting) (λ beyond fits.
-    refused_turn view batch Booting beyond tt fits (booting_is view batch beyond boots sized))
+pub boots_goes : (view : CoreView) (batch : Batch) → is_closed view.boot ≡ false → has_booted view.boot ≡ false → size_refusal batch ≡ None → TakesTurn view (Admitting batch Booting) view
+boots_goes view batch stays boots sized = turns_by_story view view (Admitting batch Booting) (λ beyond fits.
+    refused_turn view batch Booting beyond tt fits
+    (boots_first (size_refusal batch) (phase_of view.boot) _ sized (phase_open view.boot stays ∙ ap phase_if boots)))
+
+-- nor does a closed one
+closes_first : (size : Option Admit) (phase : machine.Phase) (rest : List (Option Admit)) → size ≡ None → phase ≡ machine.Closing → phase_tests size phase rest ≡ Some Closing
+closes_first size phase rest none closed = λ i. phase_tests (none i) (closed i) rest
+
+pub closed_goes : (view : CoreView) (batch : Batch) → is_closed view.boot ≡ true → size_refusal batch ≡ None → TakesTurn view (Admitting batch Closing) view
+closed_goes view batch closed sized = turns_by_story view view (Admitting batch Closing) (λ beyond fits.
+    refused_turn view batch Closing beyond tt fits
+    (closes_first (size_refusal batch) (phase_of view.boot) _ sized (phase_closed view.boot closed)))
 
 -- ---- an outcome is taken
 

@@ -16,7 +16,7 @@ use Rattle.keel_draft.specs.Drafts.{Draft}
 use Rattle.keel_resume.specs.Jobs as jobs
 use Rattle.keel_resume.specs.Plans.{Act, job_of, left_of}
 use Rattle.keel_core.specs.Resuming.{IsRest, ResumesTurn, boot_rest_of}
-use Rattle.keel_core.specs.Views.{Beyond, BootShown, ToStart, Started, Running, Cleared, CoreView, Fits, StandsFor, state_of, stopping_in}
+use Rattle.keel_core.specs.Views.{Beyond, BootShown, ToStart, Started, Running, Cleared, Closed, CoreView, Fits, StandsFor, state_of, stopping_in}
 use Rattle.keel_core.proofs.Failing.{stopping_same}
 use Rattle.keel_core.proofs.Resting.{quiet_in, same_state}
 use Rattle.std.specs.Prelude.{is_some}
@@ -72,6 +72,7 @@ same_rest view (Running booted running) beyond drafts held fits =
     ap (λ (b : Bool). first_some (cancels view held ∷ None ∷ file_gone view b ∷ [])) (same_draws (left_of running.job))
     ∙ alone _ _
 same_rest view Cleared beyond drafts held fits = idle _ _
+same_rest view (Closed booted) beyond drafts held fits = idle _ _
 
 pub boot_rest_same : (view : CoreView) (s : State) (drafts : List Draft) (held : Option ℕ) → StandsFor view s → resume_rest s drafts held ≡ boot_rest_of view held
 boot_rest_same view s drafts held stands = ap (λ (t : State). resume_rest t drafts held) stands.state_is ∙ same_rest view view.boot stands.beyond drafts held stands.fits

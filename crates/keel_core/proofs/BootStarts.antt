@@ -24,7 +24,7 @@ use Rattle.keel_machine.specs.WritingAfter.{numbers_of}
 use Rattle.keel_core.specs.declared.booting.NewJob.{NewJob}
 use Rattle.keel_core.specs.Covering.{AreTablesFor, IsNewJob, closed_by, taken_over}
 use Rattle.keel_core.specs.Resuming.{Advances, GoesOn, IsCall, IsToBegin, MakesCall, ResumesTurn, boot_rest_of, made_in, next_number, with_boot}
-use Rattle.keel_core.specs.Views.{AreSegments, Beyond, BootShown, ToStart, Started, Running, Cleared, CoreView, Fits, IsFlushing, StandsFor, has_booted, last_in, state_of}
+use Rattle.keel_core.specs.Views.{AreSegments, Beyond, BootShown, ToStart, Started, Running, Cleared, Closed, CoreView, Fits, IsFlushing, StandsFor, has_booted, last_in, state_of}
 use Rattle.keel_core.proofs.BootCovers.{drafts_are, have_batches}
 use Rattle.keel_core.proofs.BootRests.{boot_rest_same, boot_wants}
 use Rattle.keel_core.proofs.Segmenting.{one_closed}
@@ -137,6 +137,7 @@ module _ (view : CoreView) (drafts : List Draft) (are : AreTablesFor (taken_over
   }
   ready_same (Running booted running) beyond begins fits = absurd begins
   ready_same Cleared beyond begins fits = absurd begins
+  ready_same (Closed booted) beyond begins fits = absurd begins
 
   are_tables : (boot : BootShown) (beyond : Beyond) → Fits (before boot) beyond → AreTables (machine.taken_over (state_of (before boot) beyond)) drafts
   are_tables boot beyond fits =
@@ -155,12 +156,14 @@ module _ (view : CoreView) (drafts : List Draft) (are : AreTablesFor (taken_over
   are_drafts (Started booted) beyond begins fits = are_tables (Started booted) beyond fits
   are_drafts (Running booted running) beyond begins fits = absurd begins
   are_drafts Cleared beyond begins fits = absurd begins
+  are_drafts (Closed booted) beyond begins fits = absurd begins
 
   no_flush : (boot : BootShown) (seq : ℕ) (segments : List Segment) → IsToBegin boot → IsFlushing boot view.flush seq segments → view.flush ≡ None
   no_flush ToStart seq segments begins flushes = flushes
   no_flush (Started booted) seq segments begins flushes = flushes
   no_flush (Running booted running) seq segments begins flushes = absurd begins
   no_flush Cleared seq segments begins flushes = absurd begins
+  no_flush (Closed booted) seq segments begins flushes = absurd begins
 
   stands_taken : (boot : BootShown) (beyond : Beyond) → IsToBegin boot → Fits (before boot) beyond → StandsFor (in_job boot) (state_of (in_job boot) (beyond_taken beyond))
   stands_taken boot beyond begins fits = record {

@@ -11,7 +11,7 @@ use Rattle.keel_machine.specs.Outside.{as_answer}
 use Rattle.keel_machine.specs.Resuming as machine
 use Rattle.keel_machine.specs.Resuming.{AreDrafts, cleared_story, made_in, resume_rest}
 use Rattle.keel_machine.specs.States as states
-use Rattle.keel_machine.specs.States.{State, Footing, Known, Unknown, Phase, Resumption, Segment, entries_in, new_log}
+use Rattle.keel_machine.specs.States.{State, Story, Footing, Known, Unknown, Phase, Resumption, Segment, entries_in, new_log}
 use Rattle.keel_machine.specs.Reads.{WhereKnown}
 use Rattle.keel_machine.specs.Turns.{Answers, after}
 use Rattle.keel_machine.specs.Turns as turns
@@ -24,7 +24,8 @@ use Rattle.keel_resume.specs.Plans.{Act, Job, call_of, change_of, failure_of, le
 use Rattle.keel_core.specs.Failing.{noted}
 use Rattle.keel_core.specs.Resuming.{MakesCall, cleared, with_boot}
 use Rattle.keel_core.specs.Tables.{unopened}
-use Rattle.keel_core.specs.Views.{Beyond, BootShown, Running, Cleared, CoreView, Fits, IsFlushing, IsLeading, StandsFor, is_started, last_in, phase_if, phase_of, resting, resumption_of, state_of}
+use Rattle.keel_core.specs.Trails.{Continues, TrailShown}
+use Rattle.keel_core.specs.Views.{Beyond, BootShown, Running, Cleared, CoreView, Fits, IsFlushing, IsLeading, StandsFor, has_booted, is_started, last_in, phase_if, phase_of, resting, resumption_of, state_of}
 use Rattle.keel_core.proofs.Failing.{handler_cleared, handler_noted}
 use Rattle.keel_core.proofs.Stories.{cleared_on, last_same}
 use Rattle.keel_core.proofs.Unopened.{none_opened, tables_unopened}
@@ -95,6 +96,11 @@ shows boot = record { phase = phase_of boot; running = resumption_of boot; start
 rests_in : (booted : Bool) → record { phase = phase_if booted; running = None; started = false } ≡ shows (resting booted)
 rests_in true = refl
 rests_in false = refl
+
+-- the story goes on as before
+story_resting : (booted : Bool) (trail : TrailShown) (story : Story) → Continues booted trail story → Continues (has_booted (resting booted)) trail story
+story_resting true trail story h = h
+story_resting false trail story h = h
 
 leads_none : (booted : Bool) (levels : List LiveTable) → IsLeading (resting booted) levels
 leads_none true levels = tt
@@ -188,7 +194,7 @@ module _ (view : CoreView) (number : ℕ) (booted : Bool) (running : Resumption)
               started = shown.started;
             };
           }) (rests_in booted);
-      fits = record { story = fits.story; segments = fits.segments; tables = fits.tables; opened = fits.opened; leads = leads_none booted view.levels; handled = handler_noted view.options beyond.failures view.handler (failure_of act fault) fits.handled; flushes = flush_none booted view.flush beyond.in_tables beyond.immutable fits.flushes };
+      fits = record { story = story_resting booted view.trail beyond.story fits.story; segments = fits.segments; tables = fits.tables; opened = fits.opened; leads = leads_none booted view.levels; handled = handler_noted view.options beyond.failures view.handler (failure_of act fault) fits.handled; flushes = flush_none booted view.flush beyond.in_tables beyond.immutable fits.flushes };
     },
   ))
 

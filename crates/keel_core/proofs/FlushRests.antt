@@ -19,7 +19,7 @@ use Rattle.keel_machine.specs.Tests.{first_some, when, differing}
 use Rattle.keel_machine.specs.Turns.{Answers, after}
 use Rattle.keel_machine.specs.Turns as turns
 use Rattle.keel_core.specs.Flushes.{FlushesTurn, IsRest, flush_rest_of, may_flush}
-use Rattle.keel_core.specs.Views.{Beyond, CoreView, Fits, IsHandlerOf, StandsFor, has_booted, phase_if, state_of}
+use Rattle.keel_core.specs.Views.{Beyond, BootShown, ToStart, Started, Running, Cleared, Closed, CoreView, Fits, IsHandlerOf, StandsFor, has_booted, is_closed, phase_of, state_of}
 use Rattle.keel_core.proofs.Resting.{quiet_in, same_state}
 use Rattle.keel_core.proofs.Segmenting.{as_many}
 
@@ -40,13 +40,19 @@ stopped_by options failures handler h =
     (λ i. is_some (where_severe (sym h.paranoid i) (sym h.standing i)) || (is_some (sym h.standing i) && not (sym h.auto i)))
     ∙ (λ i. severe_stops handler.paranoid handler.standing i || (is_some handler.standing && off_is handler.auto handler.given_up h.on i))
 
-writes_if : (booted : Bool) → machine.writes (phase_if booted) ≡ booted
-writes_if true = refl
-writes_if false = refl
+writes_in : (boot : BootShown) → machine.writes (phase_of boot) ≡ (has_booted boot && not (is_closed boot))
+writes_in ToStart = refl
+writes_in (Started true) = refl
+writes_in (Started false) = refl
+writes_in (Running true running) = refl
+writes_in (Running false running) = refl
+writes_in Cleared = refl
+writes_in (Closed true) = refl
+writes_in (Closed false) = refl
 
 may_same : (view : CoreView) (beyond : Beyond) → Fits view beyond → machine.may_flush (state_of view beyond) ≡ may_flush view
 may_same view beyond fits = λ i.
-    writes_if (has_booted view.boot) i
+    writes_in view.boot i
     && (not (stopped_by view.options beyond.failures view.handler fits.handled i)
     && nat_le 1 (as_many beyond.in_tables view.immutable beyond.immutable view.rows beyond.active _ fits.segments i))
 

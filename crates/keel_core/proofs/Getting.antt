@@ -23,7 +23,7 @@ use Rattle.keel_table.specs.declared.fault.TableFault.{TableFault}
 use Rattle.keel_table.specs.declared.fault.TableFault.TheVariants as fault
 use Rattle.keel_table.specs.Answers.{fault_in as fault_of}
 use Rattle.keel_core.specs.Gets.{IsGot, IsGotOf, else_of, fault_got, latest}
-use Rattle.keel_core.specs.Views.{Beyond, BootShown, Cleared, CoreView, Fits, IsLeading, Running, Started, StandsFor, ToStart, TakesRead, last_in, state_of}
+use Rattle.keel_core.specs.Views.{Beyond, BootShown, Cleared, CoreView, Fits, IsLeading, Running, Started, StandsFor, ToStart, TakesRead, last_in, state_of, Closed}
 use Rattle.keel_core.proofs.Calling.{quiet_same}
 use Rattle.keel_core.proofs.Latest.{newest_of_all}
 
@@ -130,6 +130,7 @@ leads_behind ToStart old new same leads = tt
 leads_behind (Running booted resumption) old new same leads = leads ∙ sym same
 leads_behind (Started booted) old new same leads = tt
 leads_behind Cleared old new same leads = tt
+leads_behind (Closed booted) old new same leads = tt
 
 pub says_behind : (view : CoreView) (beyond : Beyond) (tables : List LiveTable) (Says : List TableFile → Type 0) → Fits view beyond
     → ((told : Told) (files : List TableFile) → view.device.told ≡ Some told → AreReadable told files → AreOpened view.levels files → AreOpened tables files × Says files)

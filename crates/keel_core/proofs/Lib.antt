@@ -32,4 +32,5 @@ pub mod FlushSteps
 pub mod FlushStarts
 pub mod Tellings
 pub mod StartTests
+pub mod Shutdowns
 pub mod Closings

@@ -139,6 +139,7 @@ first_answer a rest answer is = ap (λ (o : Option Admit). first_some (o ∷ res
 bad_answers : (s : State) (batch : Batch) (answer : Admit) → IsBadSize answer → size_refusal batch ≡ Some answer → AdmitAnswers s batch answer
 bad_answers s batch (BadSize part length) bad is = first_answer (size_refusal batch) _ (BadSize part length) is
 bad_answers s batch (admit.Queued ticket) bad is = absurd bad
+bad_answers s batch admit.Closing bad is = absurd bad
 bad_answers s batch admit.Booting bad is = absurd bad
 bad_answers s batch (admit.Full active immutables) bad is = absurd bad
 bad_answers s batch (admit.Stopped failure) bad is = absurd bad
@@ -149,6 +150,7 @@ bad_answers s batch admit.OutOfMemory bad is = absurd bad
 same_behind : (s : State) (batch : Batch) (answer : Admit) → IsBadSize answer → admit_after s batch answer ≡ s
 same_behind s batch (BadSize part length) bad = refl
 same_behind s batch (admit.Queued ticket) bad = absurd bad
+same_behind s batch admit.Closing bad = absurd bad
 same_behind s batch admit.Booting bad = absurd bad
 same_behind s batch (admit.Full active immutables) bad = absurd bad
 same_behind s batch (admit.Stopped failure) bad = absurd bad

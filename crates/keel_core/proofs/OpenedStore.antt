@@ -23,7 +23,7 @@ use Rattle.keel_levels.specs.Live.{AreOpened, entries_of, tables_of}
 use Rattle.keel_levels.proofs.Saying.{points_exist}
 use Rattle.keel_machine.specs.Opening.{Found, GoesOnWith, IsFoundBy, continues, ops_replayed, replayed_segments, story_opened, tables_in}
 use Rattle.keel_machine.specs.Reads.{WhereKnown}
-use Rattle.keel_machine.specs.States.{State, Footing, Known, Unknown, entries_in, point_of}
+use Rattle.keel_machine.specs.States.{State, Footing, Known, Unknown, entries_in, joined_story, point_of}
 use Rattle.keel_machine.specs.Turns as turns
 use Rattle.keel_machine.specs.Turns.{Answers}
 use Rattle.keel_version.specs.Tables.{AreLevels, IsWithin}
@@ -110,8 +110,8 @@ module _ (store : StoreFound) (image : Named (List ℕ)) where
   abbrev pub rows : List Row
   rows = flat_map table_rows levels ++ replayed_rows store.batches.items
 
-  abbrev pub found_in : Found
-  found_in = record { store = store; point = point_for rows store.last_seq; levels = levels }
+  abbrev pub found_in : ℕ → Found
+  found_in joined = record { store = store; point = point_for rows store.last_seq; levels = levels; joined = joined }
 
   abbrev IsRead : Type 0
   IsRead = (reading : Reading) × IsReading image reading × HasPoint reading (point_for rows store.last_seq) × (levels ≡ tables_in reading)
@@ -137,9 +137,9 @@ module _ (store : StoreFound) (image : Named (List ℕ)) where
   is_read None h = new_read h
   is_read (Some number) h = store_read number h
 
-found_by : (store : StoreFound) (told : Option Told) → StoreTells told (Ok store) → IsFoundBy told (found_in store (image_of told))
-found_by store None tells = tt
-found_by store (Some told) tells = λ directory.
+found_by : (store : StoreFound) (told : Option Told) (joined : ℕ) → StoreTells told (Ok store) → IsFoundBy told (found_in store (image_of told) joined)
+found_by store None joined tells = tt
+found_by store (Some told) joined tells = λ directory.
     let read = is_read store (image_read told.state) store.manifest (tells directory) in
     record { reading = read.0; is_read = read.1; has = read.2; levels = read.3 }
 
@@ -150,15 +150,24 @@ point_one new a b h k = h ∙ sym k
 point_one (held found at) a b h k = h ∙ sym k
 point_one (refused refusal) a b h k = absurd h
 
-goes_on : (goes : Bool) (s : State) (store : StoreFound) → WhereGoesOn goes s → StoreTells s.device.told (Ok store)
-    → GoesOnWith goes s.story (found_in store (image_of s.device.told)).point
+-- how many batches of the limbo are found
+joined_in : (goes : Bool) (s : State) → WhereGoesOn goes s → ℕ
+joined_in true s h = h.joined
+joined_in false s h = 0
+
+goes_on : (goes : Bool) (s : State) (store : StoreFound) (h : WhereGoesOn goes s) → StoreTells s.device.told (Ok store)
+    → GoesOnWith goes s.story (joined_in goes s h) (point_for (rows store (image_of s.device.told)) store.last_seq)
+unfolding joined_in
 goes_on false s store h tells = tt
 goes_on true s store h tells =
-    let there = found_by store (Some h.told) (subst (λ (t : Option Told). StoreTells t (Ok store)) h.is_told tells) h.directory in
+    let at = point_of (joined_story h.joined s.story) in
+    let there = found_by store (Some h.told) h.joined (subst (λ (t : Option Told). StoreTells t (Ok store)) h.is_told tells) h.directory in
     let same = reading_one (image_read h.told.state) there.reading h.reading there.is_read h.is_read in
-    let has = subst (λ (r : Reading). HasPoint r (point_of s.story)) (sym same) h.has in
-    subst (λ (t : Option Told). (found_in store (image_of t)).point ≡ point_of s.story) (sym h.is_told)
-    (point_one there.reading _ (point_of s.story) there.has has)
+    let has = subst (λ (r : Reading). HasPoint r at) (sym same) h.has in
+    record {
+      within = h.within;
+      point_is = subst (λ (t : Option Told). point_for (rows store (image_of t)) store.last_seq ≡ at) (sym h.is_told) (point_one there.reading _ at there.has has);
+    }
 
 -- ---- the parts of the state
 
@@ -171,15 +180,18 @@ run_to seq last (b ∷ bs) is =
       | false ↦ λ e. absurd (cc e)
     ] is
 
-story_on : (goes : Bool) (s : State) (point : Point) (last : ℕ) → WhereGoesOn goes s → GoesOnWith goes s.story point → point.seq ≡ last
-    → Continues (new_trail last) (story_opened goes point s.story)
-story_on false s point last h same seq = record { earlier = []; start_is = seq; log_is = refl; limbo_is = refl; floor_is = refl }
-story_on true s point last h same seq = record {
-  earlier = s.story.log;
-  start_is = ap (λ (p : Point). p.seq) (sym same) ∙ seq;
-  log_is = sym (append-nil s.story.log);
-  limbo_is = h.no_limbo;
-  floor_is = h.all_firm ∙ sym (add-zero (length s.story.log));
+not_booted : {P : Type 0} → false ≡ true → P
+not_booted e = cc
+
+story_on : (goes : Bool) (s : State) (joined : ℕ) (point : Point) (last : ℕ) → GoesOnWith goes s.story joined point → point.seq ≡ last
+    → Continues false (new_trail last) (story_opened goes joined point s.story)
+story_on false s joined point last same seq = record { earlier = []; start_is = seq; log_is = refl; limbo_is = λ is. refl; floor_is = λ is. refl }
+story_on true s joined point last same seq = record {
+  earlier = (joined_story joined s.story).log;
+  start_is = ap (λ (p : Point). p.seq) (sym same.point_is) ∙ seq;
+  log_is = sym (append-nil (joined_story joined s.story).log);
+  limbo_is = λ is. not_booted is;
+  floor_is = λ is. not_booted is;
 }
 
 segments_on : (seq last : ℕ) (batches : List Replayed) (logs : List ℕ) → seq + count_ops (ops_replayed batches) ≡ last
@@ -201,7 +213,8 @@ module _ (options : Options) (store : StoreFound) (lives : List LiveTable) (tabl
   opens s before device is expects told listing quiet =
       let tells : StoreTells s.device.told (Ok store) = subst (λ (d : Seen). StoreTells d.told (Ok store)) (sym is) told in
       let image = image_of s.device.told in
-      let found = found_in store image in
+      let joined = joined_in (continues s.mode s.footing) s expects in
+      let found = found_in store image joined in
       let seq : found.point.seq ≡ store.last_seq = point_seq (rows store image) store.last_seq in
       let same = goes_on (continues s.mode s.footing) s store expects tells in
       let entries = entries_found image store.version.tables in
@@ -217,7 +230,7 @@ module _ (options : Options) (store : StoreFound) (lives : List LiveTable) (tabl
             runs_on = runs_on;
             next = next;
             listing = subst (λ (d : Seen). TellsListing d.told store.listing) (sym is) listing;
-            read = found_by store s.device.told tells;
+            read = found_by store s.device.told joined tells;
             goes_on = same;
           };
           quiet = subst (λ (d : Seen). IsQuiet d None device) (sym is) quiet;
@@ -226,7 +239,7 @@ module _ (options : Options) (store : StoreFound) (lives : List LiveTable) (tabl
           beyond = record {
             footing = s.footing;
             left = s.mode.left;
-            story = story_opened (continues s.mode s.footing) found.point s.story;
+            story = story_opened (continues s.mode s.footing) joined found.point s.story;
             immutable = replayed_segments (ops_replayed store.batches.items) store.logs.items;
             active = [];
             levels = found.levels;
@@ -235,7 +248,7 @@ module _ (options : Options) (store : StoreFound) (lives : List LiveTable) (tabl
           };
           state_is = refl;
           fits = record {
-            story = story_on (continues s.mode s.footing) s found.point store.last_seq expects same seq;
+            story = story_on (continues s.mode s.footing) s joined found.point store.last_seq same seq;
             segments = segments_on store.version.last_seq _ store.batches.items store.logs.items (run_to store.version.last_seq store.last_seq store.batches.items runs_on ∙ sym (add-zero store.last_seq));
             tables = tables ∙ sym entries;
             opened = opened_on s.footing lives found.levels (opened found.levels entries);

@@ -218,13 +218,13 @@ module _ (view : CoreView) (told : Seen) (tickets : List ℕ) (batches : List Ba
 
   records_published : Goes AddRecords false
   records_published planned some calls = by_story (before AddRecords false) (done AddRecords (behind AddRecords false)) (done_step AddRecords (behind AddRecords false)) (λ beyond held fits none.
-      let given : Continues (trails.handed (ops_of batches) view.trail) (states.handed (ops_of batches) beyond.story) = handed_on view.trail beyond.story (ops_of batches) fits.story in
+      let given : Continues true (trails.handed (ops_of batches) view.trail) (states.handed (ops_of batches) beyond.story) = handed_on view.trail beyond.story (ops_of batches) fits.story in
       let later_story = published_on (trails.handed (ops_of batches) view.trail) (states.handed (ops_of batches) beyond.story) false given in
       let more : List (List Op) = view.trail.limbo ++ ops_of batches in
       let later : Beyond = record beyond { story = states.published false (states.handed (ops_of batches) beyond.story); active = beyond.active ++ more } in
       let new : CoreView = done AddRecords (behind AddRecords false) in
       let seq_same = same_seq AddRecords false beyond fits in
-      let limbo : beyond.story.limbo ++ ops_of batches ≡ more = ap (λ (l : List (List Op)). l ++ ops_of batches) fits.story.limbo_is in
+      let limbo : beyond.story.limbo ++ ops_of batches ≡ more = ap (λ (l : List (List Op)). l ++ ops_of batches) (fits.story.limbo_is refl) in
       let state : states.with_device told (first_done (group_of (flight AddRecords false)) (left_of (group_of (flight AddRecords false))) (state_before AddRecords false beyond)) ≡ state_of new later =
       done_is AddRecords false planned beyond held fits none
       ∙ (λ i. record (state_of new later) {
@@ -263,8 +263,8 @@ module _ (view : CoreView) (told : Seen) (tickets : List ℕ) (batches : List Ba
       let state : states.with_device told (first_done (group_of (flight SyncLog sync)) (left_of (group_of (flight SyncLog sync))) (state_before SyncLog sync beyond)) ≡ state_of new later =
       done_is SyncLog sync planned beyond held fits none
       ∙ (λ i. record (state_of new later) {
-        segments = record { immutable = beyond.immutable; active = record { batches = beyond.active ++ fits.story.limbo_is i; log = view.log } };
-        writing = record { waiting = view.waiting; outcomes = view.outcomes ++ done_each (seq_same i) tickets (fits.story.limbo_is i); last_ticket = view.last_ticket };
+        segments = record { immutable = beyond.immutable; active = record { batches = beyond.active ++ fits.story.limbo_is refl i; log = view.log } };
+        writing = record { waiting = view.waiting; outcomes = view.outcomes ++ done_each (seq_same i) tickets (fits.story.limbo_is refl i); last_ticket = view.last_ticket };
       }) in (
         record {
           group = group_of (flight SyncLog sync);

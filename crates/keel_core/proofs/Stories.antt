@@ -28,7 +28,7 @@ seq-fold_batches point (ops ∷ batches) =
 
 -- ---- the number of the last op
 
-pub last_same : (trail : TrailShown) (story : Story) → Continues trail story → (point_of story).seq ≡ seq_in trail
+pub last_same : {booted : Bool} (trail : TrailShown) (story : Story) → Continues booted trail story → (point_of story).seq ≡ seq_in trail
 last_same trail story h =
     let split = ap (λ (l : List (List Op)). (fold_batches story.start l).seq) h.log_is ∙ ap (λ (p : Point). p.seq) (fold_batches-append story.start h.earlier trail.log) in
     let sum = seq-fold_batches (fold_batches story.start h.earlier) trail.log in
@@ -40,38 +40,38 @@ seq_published trail sync = omega (arith, count_ops-append trail.log trail.limbo)
 
 -- ---- it goes on
 
-pub handed_on : (trail : TrailShown) (story : Story) (batches : List (List Op)) → Continues trail story → Continues (handed batches trail) (machine.handed batches story)
+pub handed_on : {booted : Bool} (trail : TrailShown) (story : Story) (batches : List (List Op)) → Continues booted trail story → Continues booted (handed batches trail) (machine.handed batches story)
 handed_on trail story batches h = record {
   earlier = h.earlier;
   start_is = h.start_is;
   log_is = h.log_is;
-  limbo_is = ap (λ (l : List (List Op)). l ++ batches) h.limbo_is;
+  limbo_is = λ is. ap (λ (l : List (List Op)). l ++ batches) (h.limbo_is is);
   floor_is = h.floor_is;
 }
 
-log_published : (trail : TrailShown) (story : Story) (h : Continues trail story) → story.log ++ story.limbo ≡ h.earlier ++ (trail.log ++ trail.limbo)
-log_published trail story h = (λ i. h.log_is i ++ h.limbo_is i) ∙ append_assoc h.earlier trail.log trail.limbo
+log_published : (trail : TrailShown) (story : Story) (h : Continues true trail story) → story.log ++ story.limbo ≡ h.earlier ++ (trail.log ++ trail.limbo)
+log_published trail story h = (λ i. h.log_is i ++ h.limbo_is refl i) ∙ append_assoc h.earlier trail.log trail.limbo
 
-floor_published : (sync : Bool) (trail : TrailShown) (story : Story) (h : Continues trail story) → (machine.published sync story).floor ≡ length h.earlier + (published sync trail).floor
-floor_published false trail story h = h.floor_is
+floor_published : (sync : Bool) (trail : TrailShown) (story : Story) (h : Continues true trail story) → (machine.published sync story).floor ≡ length h.earlier + (published sync trail).floor
+floor_published false trail story h = h.floor_is refl
 floor_published true trail story h = ap length (log_published trail story h) ∙ length-append h.earlier (trail.log ++ trail.limbo)
 
-pub published_on : (trail : TrailShown) (story : Story) (sync : Bool) → Continues trail story → Continues (published sync trail) (machine.published sync story)
+pub published_on : (trail : TrailShown) (story : Story) (sync : Bool) → Continues true trail story → Continues true (published sync trail) (machine.published sync story)
 published_on trail story sync h = record {
   earlier = h.earlier;
   start_is = h.start_is;
   log_is = log_published trail story h;
-  limbo_is = refl;
-  floor_is = floor_published sync trail story h;
+  limbo_is = λ is. refl;
+  floor_is = λ is. floor_published sync trail story h;
 }
 
-pub cleared_on : (trail : TrailShown) (story : Story) → Continues trail story → Continues (cleared trail) (cleared_story story)
+pub cleared_on : {booted : Bool} (trail : TrailShown) (story : Story) → Continues booted trail story → Continues true (cleared trail) (cleared_story story)
 cleared_on trail story h = record {
   earlier = h.earlier;
   start_is = h.start_is;
   log_is = h.log_is;
-  limbo_is = refl;
-  floor_is = ap length h.log_is ∙ length-append h.earlier trail.log;
+  limbo_is = λ is. refl;
+  floor_is = λ is. ap length h.log_is ∙ length-append h.earlier trail.log;
 }
 
 -- ---- a trail's own batches

@@ -16,7 +16,7 @@ use Rattle.keel_machine.specs.Tests.{first_some, when, differing}
 use Rattle.keel_machine.specs.Turns.{Answers, after}
 use Rattle.keel_machine.specs.Turns as turns
 use Rattle.keel_core.specs.Tables.{unopened}
-use Rattle.keel_core.specs.Views.{CoreView, FullSegment, StandsFor, TakesTurn, has_booted, with_device}
+use Rattle.keel_core.specs.Views.{CoreView, FullSegment, StandsFor, TakesTurn, has_booted, is_closed, with_device}
 
 -- For the table that the job makes the step is a turn.
 pub record FlushesTurn (old : CoreView) (held : Option ℕ) (made : JobStep) (new : CoreView) : Type 0 where
@@ -27,7 +27,7 @@ pub record FlushesTurn (old : CoreView) (held : Option ℕ) (made : JobStep) (ne
 
 -- a full segment may be flushed
 abbrev pub may_flush : CoreView → Bool
-may_flush view = has_booted view.boot && (not (stops_work view.handler) && nat_le 1 (length view.immutable))
+may_flush view = (has_booted view.boot && not (is_closed view.boot)) && (not (stops_work view.handler) && nat_le 1 (length view.immutable))
 
 abbrev pub flush_rests : CoreView → Option Job → List (Option JobStep)
 flush_rests view None =

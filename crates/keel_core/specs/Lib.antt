@@ -19,3 +19,4 @@ pub mod Gets
 pub mod Scans
 pub mod Reads
 pub mod Starting
+pub mod Shutdown

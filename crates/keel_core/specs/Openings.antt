@@ -1,5 +1,5 @@
 -- Opening a store: what is asked of the state, and what the store then shows.
-use Rattle.std.specs.Prelude.{◌≡◌, ℕ, ◌+◌, Bool, true, false, List, [], ◌∷◌, length, Some, None, Ok}
+use Rattle.std.specs.Prelude.{◌≡◌, ℕ, ◌+◌, ◌≤◌, Bool, true, false, List, [], ◌∷◌, length, Some, None, Ok}
 use Rattle.keel_base.specs.declared.options.Options.{Options}
 use Rattle.keel_directory.specs.declared.logs.Replayed.{Replayed}
 use Rattle.keel_directory.specs.Reading.{Reading, IsReading, HasPoint}
@@ -9,7 +9,7 @@ use Rattle.keel_disk.specs.Seen.{Seen}
 use Rattle.keel_handler.specs.Recovery.{fresh as fresh_handler}
 use Rattle.keel_levels.specs.declared.live.LiveTable.{LiveTable}
 use Rattle.keel_machine.specs.Opening.{Found, continues, ops_replayed}
-use Rattle.keel_machine.specs.States.{State, point_of}
+use Rattle.keel_machine.specs.States.{State, joined_story, point_of}
 use Rattle.keel_machine.specs.Turns.{Opening, Answers, after}
 use Rattle.keel_manifest.specs.State.{named_at_opening}
 use Rattle.keel_open.specs.declared.store.StoreFound.{StoreFound}
@@ -18,17 +18,17 @@ use Rattle.keel_draft.specs.Drafts.{batch_rows}
 use Rattle.keel_core.specs.Trails.{new_trail}
 use Rattle.keel_core.specs.Views.{CoreView, FullSegment, StandsFor, ToStart, last_in}
 
--- The story is as a crash leaves it. The device tells its directory, whose files have names of the store, each once, and
--- which reads as the point that the story leads to.
+-- The device tells its directory, whose files have names of the store, each once, and which reads as the point that the story
+-- leads to with the first so many batches of its limbo.
 pub record IsBorneOut (s : State) : Type 0 where
-  pub no_limbo : s.story.limbo ≡ []
-  pub all_firm : s.story.floor ≡ length s.story.log
+  pub joined : ℕ
+  pub within : joined ≤ length s.story.limbo
   pub told : Told
   pub is_told : s.device.told ≡ Some told
   pub directory : IsDirectory told.state
   pub reading : Reading
   pub is_read : IsReading (image_read told.state) reading
-  pub has : HasPoint reading (point_of s.story)
+  pub has : HasPoint reading (point_of (joined_story joined s.story))
 
 -- so it is where the opening goes on with the story, and where it begins one nothing is asked
 abbrev pub WhereGoesOn : Bool → State → Type 0

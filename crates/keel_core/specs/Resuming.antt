@@ -16,7 +16,7 @@ use Rattle.keel_resume.specs.Jobs.{draws_next, tables_of}
 use Rattle.keel_resume.specs.Plans.{Job, left_of}
 use Rattle.keel_core.specs.Tables.{unopened}
 use Rattle.keel_core.specs.Trails as trails
-use Rattle.keel_core.specs.Views.{BootShown, ToStart, Started, Running, Cleared, CoreView, StandsFor, TakesTurn, stopping_in, with_device}
+use Rattle.keel_core.specs.Views.{BootShown, ToStart, Started, Running, Cleared, Closed, CoreView, StandsFor, TakesTurn, stopping_in, with_device}
 
 -- For the tables that the job has before it the step is a turn.
 pub record ResumesTurn (old : CoreView) (held : Option ℕ) (made : ResumeStep) (new : CoreView) : Type 0 where
@@ -34,6 +34,7 @@ boot_rests view ToStart =
 boot_rests view (Started booted) = when (nat_le LAST_NUMBER view.next_file) (step.Spent FileNumber) ∷ []
 boot_rests view (Running booted running) = when (draws_next (left_of running.job) && nat_le LAST_NUMBER view.next_file) (step.Spent FileNumber) ∷ []
 boot_rests view Cleared = Some step.Idle ∷ []
+boot_rests view (Closed booted) = Some step.Idle ∷ []
 
 -- What a resume step answers where it makes no call. It depends on what the core shows alone.
 abbrev pub boot_rest_of : CoreView → Option ℕ → Option ResumeStep

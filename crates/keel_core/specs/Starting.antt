@@ -12,7 +12,7 @@ use Rattle.keel_machine.specs.Starting.{beyond}
 use Rattle.keel_machine.specs.Tests.{first_some, when}
 use Rattle.keel_core.specs.Flights.{tickets_flying}
 use Rattle.keel_core.specs.Queues.{given}
-use Rattle.keel_core.specs.Views.{BootShown, Started, Running, CoreView, has_booted}
+use Rattle.keel_core.specs.Views.{BootShown, Started, Running, CoreView, has_booted, is_closed}
 
 -- ---- tests
 
@@ -40,7 +40,8 @@ severity_in view = standing_severity view.handler.paranoid view.handler.standing
 -- The first test that holds. It depends on what the core shows alone.
 abbrev pub start_test_of : CoreView → Option Start
 start_test_of view = first_some (
-    when (not (stops_work view.handler)) start.Nothing
+    when (is_closed view.boot) start.Closing
+    ∷ when (not (stops_work view.handler)) start.Nothing
     ∷ when (is_resuming view.boot) (start.Busy view.boot_job)
     ∷ beyond (severity_in view) view.handler.standing
     ∷ when (severity_in view == 1) start.Cleared

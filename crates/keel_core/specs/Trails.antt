@@ -1,5 +1,5 @@
 -- What a trail shows: the story since the opening.
-use Rattle.std.specs.Prelude.{◌≡◌, ℕ, ◌+◌, Bool, List, [], ◌++◌, length, take, drop, vec_len, if◌then◌else◌}
+use Rattle.std.specs.Prelude.{◌≡◌, ℕ, ◌+◌, Bool, true, List, [], ◌++◌, length, take, drop, vec_len, if◌then◌else◌}
 use Rattle.keel_base.specs.Points.{fold_batches}
 use Rattle.keel_base.specs.declared.op.Batch.{Batch}
 use Rattle.keel_base.specs.declared.op.Op.{Op}
@@ -58,10 +58,11 @@ cleared trail = record trail { limbo = []; floor = length trail.log }
 
 -- ---- stories
 
--- The story has the batches of the trail behind others, which lead to the number at the opening.
-pub record Continues (trail : TrailShown) (story : Story) : Type 0 where
+-- The story has the batches of the trail behind others, which lead to the number at the opening. What is in limbo, and what
+-- must not be lost, is as the trail has it once the boot has cleared: until then that of earlier openings is the story's alone.
+pub record Continues (booted : Bool) (trail : TrailShown) (story : Story) : Type 0 where
   pub earlier : List (List Op)
   pub start_is : (fold_batches story.start earlier).seq ≡ trail.start
   pub log_is : story.log ≡ earlier ++ trail.log
-  pub limbo_is : story.limbo ≡ trail.limbo
-  pub floor_is : story.floor ≡ length earlier + trail.floor
+  pub limbo_is : booted ≡ true → story.limbo ≡ trail.limbo
+  pub floor_is : booted ≡ true → story.floor ≡ length earlier + trail.floor

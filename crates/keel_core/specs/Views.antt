@@ -34,13 +34,14 @@ use Rattle.keel_core.specs.Trails.{TrailShown, Continues, seq_in}
 -- ---- what a core shows
 
 -- How far the job has come that makes tables of all segments: none is under way in a store that boots; one was asked for,
--- and has made no call yet; one runs; or none is under way, and the boot has cleared. Of one that was asked for or runs it
--- is known whether the boot had cleared before.
+-- and has made no call yet; one runs; none is under way, and the boot has cleared; or the store was closed. Of one that was
+-- asked for or runs, and of a closed store, it is known whether the boot had cleared before.
 pub data BootShown : Type 0 where
   ToStart : BootShown
   Started : Bool → BootShown
   Running : Bool → Resumption → BootShown
   Cleared : BootShown
+  Closed : Bool → BootShown
 
 -- the boot of this opening has cleared
 abbrev pub has_booted : BootShown → Bool
@@ -48,6 +49,12 @@ has_booted ToStart = false
 has_booted (Started booted) = booted
 has_booted (Running booted resumption) = booted
 has_booted Cleared = true
+has_booted (Closed booted) = booted
+
+-- the store was closed
+abbrev pub is_closed : BootShown → Bool
+is_closed (Closed booted) = true
+is_closed _ = false
 
 -- one was asked for, and has made no call yet
 abbrev pub is_started : BootShown → Bool
@@ -169,7 +176,7 @@ IsFlushing _ flush seq segments = flush ≡ None
 
 -- what is beyond the core goes with what it shows
 pub record Fits (view : CoreView) (beyond : Beyond) : Type 0 where
-  pub story : Continues view.trail beyond.story
+  pub story : Continues (has_booted view.boot) view.trail beyond.story
   pub segments : AreSegments beyond.in_tables view.immutable beyond.immutable view.rows beyond.active (last_in view)
   pub tables : tables_of view.levels ≡ entries_in beyond.levels
   -- of a known device what is open is what its files have
@@ -183,6 +190,7 @@ phase_if true = machine.Open
 phase_if false = machine.Booting
 
 abbrev pub phase_of : BootShown → Phase
+phase_of (Closed booted) = machine.Closing
 phase_of boot = phase_if (has_booted boot)
 
 abbrev pub resumption_of : BootShown → Option Resumption

@@ -17,6 +17,8 @@ pub(crate) enum Boot {
     Running { booted: bool, running: Resumption },
     /// The boot of this opening has cleared, and nothing is under way.
     Cleared,
+    /// The store was closed. The boot of this opening had cleared before, or not.
+    Closed { booted: bool },
 }
 
 impl Boot {

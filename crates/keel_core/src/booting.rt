@@ -139,7 +139,7 @@ impl<D: Disk> Core<D> {
             }
             Boot::Started { .. } => self.file_spent(true),
             Boot::Running { running, .. } => self.file_spent(running.job.ahead().draws),
-            Boot::Cleared => Some(ResumeStep::Idle),
+            Boot::Cleared | Boot::Closed { .. } => Some(ResumeStep::Idle),
         }
     }
 
@@ -221,12 +221,12 @@ impl<D: Disk> Core<D> {
                 };
                 self.boot_job = number;
                 self.boot = Boot::Running { booted, running };
-                self.close(closing);
+                self.take_over(closing);
                 Ok(ResumeStep::Moved { job: number, call })
             }
             JobMove::Done => {
                 self.boot_job = number;
-                self.close(closing);
+                self.take_over(closing);
                 self.clear(job);
                 Ok(ResumeStep::Cleared {
                     job: number,
@@ -237,7 +237,7 @@ impl<D: Disk> Core<D> {
                 self.boot_job = number;
                 self.boot = Boot::resting(booted);
                 note(&mut self.handler, failure);
-                self.close(closing);
+                self.take_over(closing);
                 Ok(ResumeStep::Failed(failure))
             }
             JobMove::OutOfMemory => Err(Resumption { steps, job }),

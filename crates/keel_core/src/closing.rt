@@ -46,18 +46,18 @@ impl<D: Disk> Core<D> {
     }
 
     // Takes the active segment over. It takes no memory.
-    pub(crate) fn close(&mut self, closing: Closing)
+    pub(crate) fn take_over(&mut self, closing: Closing)
         requires { Closes closing self.old }
         ensures { self.new ≡ closed_by closing self.old }
     {
         match closing {
             Closing::Before => {}
             Closing::Empty => self.log = None,
-            Closing::Full(closed) => self.close_full(closed),
+            Closing::Full(closed) => self.take_over_full(closed),
         }
     }
 
-    fn close_full(&mut self, closed: Closed)
+    fn take_over_full(&mut self, closed: Closed)
         requires some { self.old.rows ≢ [] }
         requires closed { IsClosed self.old closed }
         ensures { self.new ≡ taken_over self.old }

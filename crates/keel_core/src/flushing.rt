@@ -5,7 +5,7 @@ ghost use Rattle.keel_manifest.specs.State.{IsAppendedTo, IsFirmAt};
 ghost use Rattle.keel_levels.specs.Live.{tables_of};
 ghost use Rattle.keel_machine.specs.Flushing.{first_log};
 ghost use Rattle.keel_core.specs.Flights.{log_shown};
-ghost use Rattle.keel_core.specs.Flushes.{Advances, FlushesTurn, GoesOn, IsNewFlush, IsRest, flush_rest_of, flushed, log_in, made_in, next_log, tables_with};
+ghost use Rattle.keel_core.specs.Flushes.{Advances, FlushesTurn, GoesOn, IsNewFlush, IsRest, flush_rest_of, flushed, log_in, made_in, next_log, tables_with, may_flush};
 ghost use Rattle.keel_core.specs.Segments.{segments_shown};
 ghost use Rattle.keel_core.specs.Views.{Cleared};
 
@@ -105,7 +105,7 @@ impl<D: Disk> Core<D> {
                 });
             }
         }
-        if !self.has_booted() || self.handler.work_stops() || self.segments.is_empty() {
+        if !self.may_flush() {
             return Some(JobStep::Idle);
         }
         match &self.flush {
@@ -125,6 +125,14 @@ impl<D: Disk> Core<D> {
                 None
             }
         }
+    }
+
+    // Whether a full segment may be flushed.
+    fn may_flush(&self) -> bool
+        ensures { result ≡ may_flush self.now }
+    {
+        let writes = self.has_booted() && !self.is_closed();
+        writes && !self.handler.work_stops() && !self.segments.is_empty()
     }
 
     // A flush of the oldest full segment.

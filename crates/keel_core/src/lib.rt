@@ -32,6 +32,7 @@ mod queue;
 mod reading;
 mod scanning;
 mod segments;
+mod shutdown;
 mod sizes;
 mod starting;
 mod store;
@@ -44,6 +45,3 @@ mod writing;
 pub use opening::Refused;
 pub use store::Core;
 pub use trail::Trail;
-
-#[cfg(test)]
-mod tests;

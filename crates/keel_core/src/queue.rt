@@ -9,8 +9,10 @@ ghost use Rattle.keel_core.specs.Flights.{batches_flying, tickets_flying};
 ghost use Rattle.keel_machine.specs.WritingAfter.{done_each, seq_behind};
 ghost use Rattle.keel_core.specs.Queues.{given};
 ghost use Rattle.keel_core.specs.Starting.{number_behind};
+ghost use Rattle.keel_machine.specs.Closing.{number_behind as number_closed};
 
 use crate::flight::{Act, Flight, first_act};
+use crate::shutdown::number_closed;
 use crate::starting::number_behind;
 use keel_base::{Batch, Call, Failure, OutOfMemory};
 use keel_group::{Formed, MAX_WAITING, WaitQueue};
@@ -219,6 +221,29 @@ impl Queue {
         self.settle(Outcome::Failed(failure));
     }
 
+    /// The group in flight, where there is one, is over, since the store is closed.
+    pub(crate) fn close_group(&mut self)
+        requires room { vec_len self.old.outcomes + length (tickets_flying (flying self.old.group)) ≤ vec_capacity self.old.outcomes }
+        ensures waiting { self.new.waiting ≡ self.old.waiting }
+        ensures group { self.new.group ≡ None }
+        ensures outcomes { self.new.outcomes.items ≡ self.old.outcomes.items ++ given Outcome.Closed (tickets_flying (flying self.old.group)) }
+        ensures len { vec_len self.new.outcomes ≡ vec_len self.old.outcomes + length (tickets_flying (flying self.old.group)) }
+        ensures last_ticket { self.new.last_ticket ≡ self.old.last_ticket }
+        ensures job { self.new.job ≡ number_closed (is_some (flying self.old.group)) self.old.job }
+        ensures room { vec_capacity self.new.outcomes ≡ vec_capacity self.old.outcomes }
+    {
+        self.job = number_closed(self.is_flying(), self.job);
+        self.settle(Outcome::Closed);
+    }
+
+    /// How many tickets have no outcome yet.
+    pub(crate) fn open_tickets(&self) -> u64
+        requires { length (tickets_flying (flying self.now.group)) ≤ 64 }
+        ensures { result ≡ length (tickets_flying (flying self.now.group)) + length self.now.waiting.items }
+    {
+        self.in_flight() as u64 + self.waiting.waiting() as u64
+    }
+
     /// Whether a group is in flight.
     pub(crate) fn is_flying(&self) -> bool
         ensures { result ≡ is_some (flying self.now.group) }
@@ -246,22 +271,18 @@ impl Queue {
         }
     }
 
-    /// All that wait are turned away, since this failure stands.
-    pub(crate) fn turn_away(&mut self, failure: Failure)
+    /// All that wait are turned away with that outcome.
+    pub(crate) fn turn_away(&mut self, outcome: Outcome)
         requires { vec_len self.old.outcomes + length self.old.waiting.items ≤ vec_capacity self.old.outcomes }
         ensures waiting { self.new.waiting.items ≡ [] }
         ensures group { self.new.group ≡ self.old.group }
-        ensures outcomes { self.new.outcomes.items ≡ self.old.outcomes.items ++ given (Outcome.Turned failure) (tickets_of self.old.waiting.items) }
+        ensures outcomes { self.new.outcomes.items ≡ self.old.outcomes.items ++ given outcome (tickets_of self.old.waiting.items) }
         ensures len { vec_len self.new.outcomes ≡ vec_len self.old.outcomes + length self.old.waiting.items }
         ensures last_ticket { self.new.last_ticket ≡ self.old.last_ticket }
         ensures job { self.new.job ≡ self.old.job }
         ensures room { vec_capacity self.new.outcomes ≡ vec_capacity self.old.outcomes }
     {
-        give(
-            &mut self.outcomes,
-            self.waiting.tickets(),
-            Outcome::Turned(failure),
-        );
+        give(&mut self.outcomes, self.waiting.tickets(), outcome);
         drop_all(&mut self.waiting);
     }
 

@@ -38,12 +38,15 @@ impl<D: Disk> Core<D> {
     fn start_test(&self) -> Result<Failure, Start>
         ensures { Tests self.now result }
     {
-        let Some(failure) = self.handler.standing() else {
-            return Err(Start::Nothing);
-        };
+        if self.is_closed() {
+            return Err(Start::Closing);
+        }
         if !self.handler.work_stops() {
             return Err(Start::Nothing);
         }
+        let Some(failure) = self.handler.standing() else {
+            return Err(Start::Nothing);
+        };
         if self.is_resuming() {
             return Err(Start::Busy { job: self.boot_job });
         }
@@ -57,7 +60,7 @@ impl<D: Disk> Core<D> {
     }
 
     // Whether a resume was asked for and isn't over, or the boot is under way.
-    fn is_resuming(&self) -> bool
+    pub(crate) fn is_resuming(&self) -> bool
         ensures { result ≡ is_resuming self.now.boot }
     {
         matches!(self.boot, Boot::Started { .. } | Boot::Running { .. })

@@ -8,7 +8,7 @@ ghost use Rattle.keel_machine.specs.declared.answers.Outcome.TheVariants.{Waitin
 ghost use Rattle.keel_machine.specs.Turns as event;
 ghost use Rattle.keel_machine.specs.Turns.{Admitting, Arranging, TakingOutcome};
 ghost use Rattle.keel_core.specs.Trails.{shown};
-ghost use Rattle.keel_core.specs.Views.{TakesTurn, last_in, calls_left, with_device, is_full, is_store_full, has_booted, IsReady};
+ghost use Rattle.keel_core.specs.Views.{TakesTurn, last_in, calls_left, with_device, is_full, is_store_full, has_booted, is_closed, IsReady};
 
 use crate::boot::Boot;
 use crate::flushing::Flushing;
@@ -120,6 +120,9 @@ impl<D: Disk> Core<D> {
         if let Some(refusal) = size_refusal(&batch) {
             return refusal;
         }
+        if self.is_closed() {
+            return Admit::Closing;
+        }
         if !self.has_booted() {
             return Admit::Booting;
         }
@@ -193,7 +196,15 @@ impl<D: Disk> Core<D> {
             Boot::Started { booted } => booted,
             Boot::Running { booted, .. } => booted,
             Boot::Cleared => true,
+            Boot::Closed { booted } => booted,
         }
+    }
+
+    // Whether the store was closed.
+    pub(crate) fn is_closed(&self) -> bool
+        ensures { is_closed self.now.boot ≡ result }
+    {
+        matches!(self.boot, Boot::Closed { .. })
     }
 
     // Whether nothing else is under way, and there is a log. Where a write step or a flush step is to make a call it always is

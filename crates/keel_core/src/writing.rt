@@ -69,7 +69,7 @@ impl<D: Disk> Core<D> {
         ensures view { self.new ≡ rested rest self.old }
     {
         if let WriteStep::Turned { failure, .. } = rest {
-            self.queue.turn_away(failure);
+            self.queue.turn_away(Outcome::Turned(failure));
         }
         rest
     }

@@ -19,13 +19,13 @@ returns-in-Some g c = record {
 pub returns-in-Some-stopping : goal.returns-in-Some-stopping
 returns-in-Some-stopping g c =
     let w = c.self.inside in
-    record { turn = rw (← c.self.view_is) (stopped_goes _ c.args.batch w.last_seq w.handed_seq c.in-Some-stopping.failure (record { booted = rw (← c.self.view_is) at (c.has_booted.ensures ∙ c.if-not-has_booted.false); last = c.self.invariant.seq; handed = c.self.invariant.handed }) (sym c.size_refusal.ensures ∙ c.in_default.is) (sym c.stopping.ensures ∙ c.in-Some-stopping.is)) }
+    record { turn = rw (← c.self.view_is) (stopped_goes _ c.args.batch w.last_seq w.handed_seq c.in-Some-stopping.failure (record { stays = rw (← c.self.view_is) at (c.is_closed.ensures ∙ c.if-is_closed.false); booted = rw (← c.self.view_is) at (c.has_booted.ensures ∙ c.if-not-has_booted.false); last = c.self.invariant.seq; handed = c.self.invariant.handed }) (sym c.size_refusal.ensures ∙ c.in_default.is) (sym c.stopping.ensures ∙ c.in-Some-stopping.is)) }
 
 pub returns-then-self-ops_before-gt-LAST_NUMBER : goal.returns-then-self-ops_before-gt-LAST_NUMBER
 returns-then-self-ops_before-gt-LAST_NUMBER g c =
     let w = c.self.inside in
     record {
-      turn = rw (← c.self.view_is) (seq_spent _ c.args.batch w.last_seq w.handed_seq (record { known = record { booted = rw (← c.self.view_is) at (c.has_booted.ensures ∙ c.if-not-has_booted.false); last = c.self.invariant.seq; handed = c.self.invariant.handed }; sized = sym c.size_refusal.ensures ∙ c.in_default.is; calm = sym c.stopping.ensures ∙ c.in-None.is })
+      turn = rw (← c.self.view_is) (seq_spent _ c.args.batch w.last_seq w.handed_seq (record { known = record { stays = rw (← c.self.view_is) at (c.is_closed.ensures ∙ c.if-is_closed.false); booted = rw (← c.self.view_is) at (c.has_booted.ensures ∙ c.if-not-has_booted.false); last = c.self.invariant.seq; handed = c.self.invariant.handed }; sized = sym c.size_refusal.ensures ∙ c.in_default.is; calm = sym c.stopping.ensures ∙ c.in-None.is })
           (omega (arith, c.ops_before.ensures, c.len-ops.ensures, c.if-self-ops_before-gt-LAST_NUMBER.true)));
     }
 
@@ -33,7 +33,7 @@ pub returns-then-self-ge-LAST_NUMBER : goal.returns-then-self-ge-LAST_NUMBER
 returns-then-self-ge-LAST_NUMBER g c =
     let w = c.self.inside in
     record {
-      turn = rw (← c.self.view_is) (ticket_spent _ c.args.batch w.last_seq w.handed_seq (record { known = record { booted = rw (← c.self.view_is) at (c.has_booted.ensures ∙ c.if-not-has_booted.false); last = c.self.invariant.seq; handed = c.self.invariant.handed }; sized = sym c.size_refusal.ensures ∙ c.in_default.is; calm = sym c.stopping.ensures ∙ c.in-None.is })
+      turn = rw (← c.self.view_is) (ticket_spent _ c.args.batch w.last_seq w.handed_seq (record { known = record { stays = rw (← c.self.view_is) at (c.is_closed.ensures ∙ c.if-is_closed.false); booted = rw (← c.self.view_is) at (c.has_booted.ensures ∙ c.if-not-has_booted.false); last = c.self.invariant.seq; handed = c.self.invariant.handed }; sized = sym c.size_refusal.ensures ∙ c.in_default.is; calm = sym c.stopping.ensures ∙ c.in-None.is })
           (omega (arith, c.ops_before.ensures, c.len-ops.ensures, c.if-self-ops_before-gt-LAST_NUMBER.false)) c.if-self-ge-LAST_NUMBER.true);
     }
 
@@ -41,7 +41,7 @@ pub returns-then-is_store_full : goal.returns-then-is_store_full
 returns-then-is_store_full g c =
     let w = c.self.inside in
     record {
-      turn = rw (← c.self.view_is) (store_full _ c.args.batch w.last_seq w.handed_seq c.weight.result c.len.result (record { known = record { booted = rw (← c.self.view_is) at (c.has_booted.ensures ∙ c.if-not-has_booted.false); last = c.self.invariant.seq; handed = c.self.invariant.handed }; sized = sym c.size_refusal.ensures ∙ c.in_default.is; calm = sym c.stopping.ensures ∙ c.in-None.is })
+      turn = rw (← c.self.view_is) (store_full _ c.args.batch w.last_seq w.handed_seq c.weight.result c.len.result (record { known = record { stays = rw (← c.self.view_is) at (c.is_closed.ensures ∙ c.if-is_closed.false); booted = rw (← c.self.view_is) at (c.has_booted.ensures ∙ c.if-not-has_booted.false); last = c.self.invariant.seq; handed = c.self.invariant.handed }; sized = sym c.size_refusal.ensures ∙ c.in_default.is; calm = sym c.stopping.ensures ∙ c.in-None.is })
           (omega (arith, c.ops_before.ensures, c.len-ops.ensures, c.if-self-ops_before-gt-LAST_NUMBER.false)) (omega (arith, c.if-self-ge-LAST_NUMBER.false)) (rw (← c.self.view_is) at (sym c.is_store_full.ensures ∙ c.if-is_store_full.true)) c.weight.ensures.value (omega (arith, c.len.ensures, shown_many w.segments.items)));
     }
 
@@ -49,7 +49,7 @@ pub returns-then-waiting-ge-MAX_WAITING : goal.returns-then-waiting-ge-MAX_WAITI
 returns-then-waiting-ge-MAX_WAITING g c =
     let w = c.self.inside in
     record {
-      turn = rw (← c.self.view_is) (queue_full _ c.args.batch w.last_seq w.handed_seq c.waiting-waiting.result (record { known = record { booted = rw (← c.self.view_is) at (c.has_booted.ensures ∙ c.if-not-has_booted.false); last = c.self.invariant.seq; handed = c.self.invariant.handed }; sized = sym c.size_refusal.ensures ∙ c.in_default.is; calm = sym c.stopping.ensures ∙ c.in-None.is })
+      turn = rw (← c.self.view_is) (queue_full _ c.args.batch w.last_seq w.handed_seq c.waiting-waiting.result (record { known = record { stays = rw (← c.self.view_is) at (c.is_closed.ensures ∙ c.if-is_closed.false); booted = rw (← c.self.view_is) at (c.has_booted.ensures ∙ c.if-not-has_booted.false); last = c.self.invariant.seq; handed = c.self.invariant.handed }; sized = sym c.size_refusal.ensures ∙ c.in_default.is; calm = sym c.stopping.ensures ∙ c.in-None.is })
           (omega (arith, c.ops_before.ensures, c.len-ops.ensures, c.if-self-ops_before-gt-LAST_NUMBER.false)) (omega (arith, c.if-self-ge-LAST_NUMBER.false)) (rw (← c.self.view_is) at (sym c.is_store_full.ensures ∙ c.if-is_store_full.false)) c.waiting-waiting.ensures.count c.if-waiting-ge-MAX_WAITING.true);
     }
 
@@ -114,7 +114,7 @@ returns g c =
     let added = c.join_reserved.ensures ∙ (λ k. q.waiting k ++ ticketed (q.last_ticket k + 1) c.args.batch ∷ []) in
     record {
       turn = rw (← c.self.view_is, c.reserve.ensures.same, c.reserve-3.ensures.rows, added, q.group, q.outcomes, q.last_ticket, q.job)
-          (queued_goes old c.args.batch w.last_seq w.handed_seq (record { known = record { booted = rw (← c.self.view_is) at (c.has_booted.ensures ∙ c.if-not-has_booted.false); last = c.self.invariant.seq; handed = c.self.invariant.handed }; sized = sym c.size_refusal.ensures ∙ c.in_default.is; calm = sym c.stopping.ensures ∙ c.in-None.is })
+          (queued_goes old c.args.batch w.last_seq w.handed_seq (record { known = record { stays = rw (← c.self.view_is) at (c.is_closed.ensures ∙ c.if-is_closed.false); booted = rw (← c.self.view_is) at (c.has_booted.ensures ∙ c.if-not-has_booted.false); last = c.self.invariant.seq; handed = c.self.invariant.handed }; sized = sym c.size_refusal.ensures ∙ c.in_default.is; calm = sym c.stopping.ensures ∙ c.in-None.is })
           (omega (arith, c.ops_before.ensures, c.len-ops.ensures, c.if-self-ops_before-gt-LAST_NUMBER.false)) (omega (arith, c.if-self-ge-LAST_NUMBER.false)) (rw (← c.self.view_is) at (sym c.is_store_full.ensures ∙ c.if-is_store_full.false))
           (omega (arith, c.waiting-waiting.ensures.count, c.if-waiting-ge-MAX_WAITING.false)));
     }

@@ -46,7 +46,7 @@ returns-in-Moved g c =
       next_file = w.next_file.number;
       manifest = w.manifest;
     } in
-    rw (c.close.ensures, ← c.self.view_is, ← c.running.view_is) (tt, moved_closed old c.args.number c.args.booted c.running.inside.steps _ _ c.args.closing c.in-Moved.call c.in-Moved.ensures)
+    rw (c.take_over.ensures, ← c.self.view_is, ← c.running.view_is) (tt, moved_closed old c.args.number c.args.booted c.running.inside.steps _ _ c.args.closing c.in-Moved.call c.in-Moved.ensures)
 
 pub returns-in-Done : goal.returns-in-Done
 returns-in-Done g c =
@@ -73,7 +73,7 @@ returns-in-Done g c =
       next_file = w.next_file.number;
       manifest = w.manifest;
     } in
-    rw (c.clear.ensures, c.close-in-Done.ensures, ← c.self.view_is, ← c.running.view_is) (tt, cleared_closed old c.args.number c.args.booted c.running.inside.steps _ _ c.args.closing c.in-Done.ensures)
+    rw (c.clear.ensures, c.take_over-in-Done.ensures, ← c.self.view_is, ← c.running.view_is) (tt, cleared_closed old c.args.number c.args.booted c.running.inside.steps _ _ c.args.closing c.in-Done.ensures)
 
 pub returns-in-Failed : goal.returns-in-Failed
 returns-in-Failed g c =
@@ -100,4 +100,4 @@ returns-in-Failed g c =
       next_file = w.next_file.number;
       manifest = w.manifest;
     } in
-    rw (c.close-in-Failed.ensures, c.note.ensures, c.resting.ensures, ← c.self.view_is, ← c.running.view_is) (tt, failed_closed old c.args.number c.args.booted c.running.inside.steps _ _ c.args.closing c.in-Failed.failure c.in-Failed.ensures)
+    rw (c.take_over-in-Failed.ensures, c.note.ensures, c.resting.ensures, ← c.self.view_is, ← c.running.view_is) (tt, failed_closed old c.args.number c.args.booted c.running.inside.steps _ _ c.args.closing c.in-Failed.failure c.in-Failed.ensures)
