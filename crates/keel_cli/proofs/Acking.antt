@@ -14,7 +14,7 @@ use Rattle.keel_machine.specs.declared.steps.WriteStep.{WriteStep}
 use Rattle.keel_machine.specs.declared.steps.WriteStep.TheVariants as step
 use Rattle.keel_machine.specs.Admission.{last_seq, outcome_kept, is_on_its_way, outcome_of, queued, is_full, tickets_of_group}
 use Rattle.keel_machine.specs.States.{State, Story, Group, Slot, Act, CloseLog, MakeLog, SyncDirectory, AddRecords, SyncLog, Writing, left_of, point_of, published, is_open}
-use Rattle.keel_machine.specs.Turns.{Event, Opening, Admitting, Writing as Makes, Resuming, Flushing, TakingOutcome, Getting, Scanning, Listing, TellingError, TellingLevels, Arranging, Crashing, Starting, Finishing, Turn, after}
+use Rattle.keel_machine.specs.Turns.{Event, Opening, Admitting, Writing as Makes, Resuming, Flushing, TakingOutcome, Getting, Scanning, Listing, TellingError, TellingLevels, Arranging, Crashing, Starting, Finishing, Turn, after, ShuttingDown}
 use Rattle.keel_machine.specs.Writing.{ready, started, started_or, group_plan}
 use Rattle.keel_machine.specs.WritingAfter.{seq_behind, done_each, file_drawn, with_made, with_log, switched, log_longer, batches_handed, goes_on, act_done, act_failed, first_done, first_failed, group_done, group_failed, call_done, call_failed, queue_turned, write_after}
 use Rattle.keel_machine.specs.declared.answers.Start.{Start}
@@ -25,6 +25,7 @@ use Rattle.keel_draft.specs.Drafts.{count_ops}
 use Rattle.keel_cli.proofs.Beside.{beside}
 use Rattle.keel_cli.proofs.Flooring.{firm_seq, firm_published, published_firm, firm_resumed}
 use Rattle.keel_cli.proofs.Tickets.{any, given}
+use Rattle.keel_machine.specs.Closing.{close_after, open_tickets}
 
 either : (a b : Bool) (P : Type 0) → (a ≡ true → P) → (b ≡ true → P) → (a || b) ≡ true → P
 either true b P first second is = first refl
@@ -53,6 +54,7 @@ within_more : (firm more : ℕ) (out : Outcome) → firm ≤ more → IsWithin f
 within_more firm more outcome.Waiting least is = tt
 within_more firm more (outcome.Done seq) least is = omega (arith, least, is)
 within_more firm more (outcome.Failed failure) least is = tt
+within_more firm more outcome.Closed least is = tt
 within_more firm more (outcome.Turned failure) least is = tt
 within_more firm more outcome.Unknown least is = tt
 
@@ -111,6 +113,7 @@ told_within firm seq (Some outcome.Waiting) on_way within same = cc
 told_within firm seq (Some outcome.Unknown) on_way within same = cc
 told_within firm seq (Some (outcome.Done other)) on_way within same = let is : other ≡ seq = cc in omega (arith, is, within)
 told_within firm seq (Some (outcome.Failed failure)) on_way within same = cc
+told_within firm seq (Some outcome.Closed) on_way within same = cc
 told_within firm seq (Some (outcome.Turned failure)) on_way within same = cc
 
 -- ---- a ticket of a synced batch, on its way
@@ -346,6 +349,17 @@ module _ (ticket last : ℕ) where
         runs = tt;
       })
 
+  -- the store is closed, and tickets without an outcome get one that is no Done
+  pub synced_closed : (s : State) → IsSynced ticket last s → IsSynced ticket last (close_after s)
+  synced_closed s synced = record {
+    last_is = synced.last_is;
+    kept =
+        kept_append ticket (firm_seq s.story) s.writing.outcomes (given outcome.Closed (open_tickets s)) synced.kept
+        (kept_given ticket (firm_seq s.story) outcome.Closed (open_tickets s) tt);
+    waits = tt;
+    runs = tt;
+  }
+
 waits_queued : (ticket : ℕ) (batch : Batch) (given_as : ℕ) (waiting : List Ticketed) → WaitSynced ticket waiting → (given_as ≡ ticket → batch.sync ≡ true)
     → WaitSynced ticket (waiting ++ (record { ticket = given_as; batch = batch }) ∷ [])
 waits_queued ticket batch given_as [] waits is = (is, tt)
@@ -375,6 +389,7 @@ fresh_admitted s batch (admit.Queued given_as) device opened fresh = λ opens ti
     synced_seen ticket (s.writing.last_ticket + 1) (queued batch s) device
     (synced_queued ticket s.writing.last_ticket s batch (fresh opened ticket (omega (arith, above))) (λ same. absurd (omega (arith, above, same))))
 fresh_admitted s batch (admit.BadSize part size) device opened fresh = fresh_on s _ opened (λ ticket. synced_seen ticket s.writing.last_ticket s device) fresh
+fresh_admitted s batch admit.Closing device opened fresh = fresh_on s _ opened (λ ticket. synced_seen ticket s.writing.last_ticket s device) fresh
 fresh_admitted s batch admit.Booting device opened fresh = fresh_on s _ opened (λ ticket. synced_seen ticket s.writing.last_ticket s device) fresh
 fresh_admitted s batch (admit.Stopped failure) device opened fresh = fresh_on s _ opened (λ ticket. synced_seen ticket s.writing.last_ticket s device) fresh
 fresh_admitted s batch (admit.Spent counter) device opened fresh = fresh_on s _ opened (λ ticket. synced_seen ticket s.writing.last_ticket s device) fresh
@@ -413,7 +428,10 @@ answer_fresh s (Crashing pick None) device may fresh = λ opens. cc
 answer_fresh s (Starting answer) device may fresh =
     fresh_on s (after s (Starting answer) device) may
     (λ ticket synced. synced_seen ticket s.writing.last_ticket (start_after s answer) device (synced_begun ticket s.writing.last_ticket s answer synced)) fresh
-answer_fresh s Finishing device may fresh = absurd may
+answer_fresh s (ShuttingDown tickets) device may fresh =
+    fresh_on s (after s (ShuttingDown tickets) device) may
+    (λ ticket synced. synced_seen ticket s.writing.last_ticket (close_after s) device (synced_closed ticket s.writing.last_ticket s synced)) fresh
+answer_fresh s Finishing device may fresh = λ opens. cc
 
 pub keep_fresh : (old new : State) (event : Event) → MayCall old event → Turn old event new → Fresh old → Fresh new
 keep_fresh old new event may turn fresh = subst Fresh (sym turn.1) (answer_fresh old event new.device may fresh)

@@ -26,7 +26,8 @@ use Rattle.keel_cli.specs.Claim.{later, acknowledged, Reaches, IsNotBehind, None
 use Rattle.keel_cli.specs.LineEnds.{LinesEnd}
 use Rattle.keel_cli.specs.Puts.{put_batch, del_batch, refusal_replies, outcome_replies, Waits, PutSettled, PutRun}
 use Rattle.keel_cli.specs.Runs.{opening_replies, rest_reply, RestsOrCalls, Carries, Run}
-use Rattle.keel_cli.specs.Sessions.{Session, Begins, unopened}
+use Rattle.keel_cli.specs.Jobs.{Driven, driven}
+use Rattle.keel_cli.specs.Sessions.{Session, Begins, driven_in, unopened}
 use Rattle.keel_cli.proofs.Acking.{IsSynced, Fresh, keep_fresh, synced_seen, synced_queued, synced_taken, synced_written, done_firm}
 use Rattle.keel_cli.proofs.Flooring.{firm_seq, HeldBy, Held, held_open, open_held, keep_held, opened_reaches, was_known}
 use Rattle.keel_cli.proofs.Keeping.{IsKept, admitted, waited, taken, carried, run, stopped}
@@ -34,29 +35,29 @@ use Rattle.keel_cli.proofs.Keeping.{IsKept, admitted, waited, taken, carried, ru
 -- ---- a put
 
 -- a ticket of a synced batch stays one while write steps are made
-synced_waits : (ticket last : ℕ) (old new : State) (of : ℕ) (steps : List WriteStep) → Waits old of steps new → IsSynced ticket last old → IsSynced ticket last new
+synced_waits : (ticket last : ℕ) (old new : Driven) (of : ℕ) (steps : List WriteStep) → Waits old of steps new → IsSynced ticket last old.state → IsSynced ticket last new.state
 synced_waits ticket last old new of [] same synced = rw same synced
 synced_waits ticket last old new of (made ∷ earlier) waits synced =
     let before = synced_waits ticket last old waits.0 of earlier waits.2 synced in
     let between : IsSynced ticket last waits.1 =
-    subst (IsSynced ticket last) (sym waits.3.1) (synced_taken ticket last waits.0 of outcome.Waiting waits.1.device before) in
-    subst (IsSynced ticket last) (sym waits.4.1)
-    (synced_seen ticket last (write_after waits.1 made) new.device (synced_written ticket last waits.1 made between))
+    subst (IsSynced ticket last) (sym waits.3.1) (synced_taken ticket last waits.0.state of outcome.Waiting waits.1.device before) in
+    subst (IsSynced ticket last) (sym waits.4.turn.1)
+    (synced_seen ticket last (write_after waits.1 made) new.state.device (synced_written ticket last waits.1 made between))
 
 -- what a synced put is told to be done with is firm
-settled_firm : (old new : State) (batch : Batch) (replies : List Reply) (put : PutSettled old batch replies new) (seq : ℕ) → is_open old.mode.phase ≡ true → batch.sync ≡ true → Fresh old
-    → put.outcome ≡ outcome.Done seq → seq ≤ firm_seq new.story
+settled_firm : (old new : Driven) (batch : Batch) (replies : List Reply) (put : PutSettled old batch replies new) (seq : ℕ) → is_open old.state.mode.phase ≡ true → batch.sync ≡ true → Fresh old.state
+    → put.outcome ≡ outcome.Done seq → seq ≤ firm_seq new.state.story
 settled_firm old new batch replies put seq opened sync fresh done =
-    let last = old.writing.last_ticket in
+    let last = old.state.writing.last_ticket in
     let ticket_is : put.ticket ≡ last + 1 = put.queues.queued.0.0.1 in
-    let before : IsSynced put.ticket last old = fresh opened put.ticket (omega (arith, ticket_is)) in
+    let before : IsSynced put.ticket last old.state = fresh opened put.ticket (omega (arith, ticket_is)) in
     let joined : IsSynced put.ticket (last + 1) put.queues.mid =
     subst (IsSynced put.ticket (last + 1)) (sym put.queues.queued.1)
-    (synced_seen put.ticket (last + 1) _ put.queues.mid.device (synced_queued put.ticket last old batch before (λ same. sync))) in
-    let behind : IsSynced put.ticket (last + 1) put.last =
-    synced_waits put.ticket (last + 1) put.queues.mid put.last put.ticket put.steps put.queues.waits joined in
-    let firm : seq ≤ firm_seq put.last.story = done_firm put.ticket (last + 1) seq put.last behind (sym put.taken.0.0 ∙ done) in
-    omega (arith, firm, ap (λ (s : State). firm_seq s.story) put.taken.1)
+    (synced_seen put.ticket (last + 1) _ put.queues.mid.device (synced_queued put.ticket last old.state batch before (λ same. sync))) in
+    let behind : IsSynced put.ticket (last + 1) put.last.state =
+    synced_waits put.ticket (last + 1) (driven put.queues.mid old.jobs) put.last put.ticket put.steps put.queues.waits joined in
+    let firm : seq ≤ firm_seq put.last.state.story = done_firm put.ticket (last + 1) seq put.last.state behind (sym put.taken.turn.0.0 ∙ done) in
+    omega (arith, firm, ap (λ (s : State). firm_seq s.story) put.taken.turn.1)
 
 same_replies : {A : Type 0} (a b : A) → Some a ≡ Some b → a ≡ b
 same_replies a b same = cc
@@ -70,6 +71,7 @@ refused_said P number (admit.Queued ticket) replies prints is = cc
 refused_said P number (admit.BadSize part.Key size) replies prints is = unsaid P number _ replies (same_replies _ _ prints) is
 refused_said P number (admit.BadSize part.Value size) replies prints is = unsaid P number _ replies (same_replies _ _ prints) is
 refused_said P number (admit.BadSize part.Batch size) replies prints is = cc
+refused_said P number admit.Closing replies prints is = unsaid P number _ replies (same_replies _ _ prints) is
 refused_said P number admit.Booting replies prints is = unsaid P number _ replies (same_replies _ _ prints) is
 refused_said P number (admit.Stopped failure) replies prints is = unsaid P number _ replies (same_replies _ _ prints) is
 refused_said P number (admit.Spent counter) replies prints is = unsaid P number _ replies (same_replies _ _ prints) is
@@ -84,42 +86,43 @@ outcome_said P number (outcome.Done seq) replies prints done is = unsaid P numbe
 outcome_said P number (outcome.Failed failure) replies prints done is = unsaid P number _ replies (same_replies _ _ prints) is
 outcome_said P number (outcome.Turned failure) replies prints done is = unsaid P number _ replies (same_replies _ _ prints) is
 outcome_said P number outcome.Unknown replies prints done is = cc
+outcome_said P number outcome.Closed replies prints done is = cc
 
 -- a store that is open stays open in a put that settles
-settled_open : (old new : State) (batch : Batch) (replies : List Reply) (put : PutSettled old batch replies new) → is_open old.mode.phase ≡ true → Fresh old → is_open new.mode.phase ≡ true
+settled_open : (old new : Driven) (batch : Batch) (replies : List Reply) (put : PutSettled old batch replies new) → is_open old.state.mode.phase ≡ true → Fresh old.state → is_open new.state.mode.phase ≡ true
 settled_open old new batch replies put opened fresh =
-    let first : IsKept Fresh keep_fresh old = record { opened = opened; kept = fresh } in
-    let joined = admitted Fresh keep_fresh old put.queues.mid batch (admit.Queued put.ticket) put.queues.queued first in
-    let behind = waited Fresh keep_fresh put.queues.mid put.last put.ticket put.steps put.queues.waits joined in
-    (taken Fresh keep_fresh put.last new put.ticket put.outcome put.taken behind).opened
+    let first : IsKept Fresh keep_fresh old.state = record { opened = opened; kept = fresh } in
+    let joined = admitted Fresh keep_fresh old.state put.queues.mid batch (admit.Queued put.ticket) put.queues.queued first in
+    let behind = waited Fresh keep_fresh (driven put.queues.mid old.jobs) put.last put.ticket put.steps put.queues.waits joined in
+    (taken Fresh keep_fresh put.last.state new.state put.ticket put.outcome put.taken.turn behind).opened
 
-put_held : (number : ℕ) (old new : State) (batch : Batch) (replies : List Reply) → PutRun old batch replies new → is_open old.mode.phase ≡ true → batch.sync ≡ true → Fresh old → Held number new
-    → Held (later number replies) new
-put_held number old new batch replies (inl refused) opened sync fresh held = refused_said (λ n. Held n new) number refused.answer replies refused.prints held
+put_held : (number : ℕ) (old new : Driven) (batch : Batch) (replies : List Reply) → PutRun old batch replies new → is_open old.state.mode.phase ≡ true → batch.sync ≡ true → Fresh old.state → Held number new.state
+    → Held (later number replies) new.state
+put_held number old new batch replies (inl refused) opened sync fresh held = refused_said (λ n. Held n new.state) number refused.answer replies refused.prints held
 put_held number old new batch replies (inr (inl put)) opened sync fresh held =
     let opens = settled_open old new batch replies put opened fresh in
-    outcome_said (λ n. Held n new) number put.outcome replies put.prints
-    (λ seq done. open_held (max number seq) new opens (λ known.
-    let so_far : number ≤ firm_seq new.story = held_open number new opens known held in
-    let now : seq ≤ firm_seq new.story = settled_firm old new batch replies put seq opened sync fresh done in
+    outcome_said (λ n. Held n new.state) number put.outcome replies put.prints
+    (λ seq done. open_held (max number seq) new.state opens (λ known.
+    let so_far : number ≤ firm_seq new.state.story = held_open number new.state opens known held in
+    let now : seq ≤ firm_seq new.state.story = settled_firm old new batch replies put seq opened sync fresh done in
     omega (arith, so_far, now)))
     held
-put_held number old new batch replies (inr (inr waits)) opened sync fresh held = unsaid (λ n. Held n new) number _ replies (sym waits.prints) held
+put_held number old new batch replies (inr (inr waits)) opened sync fresh held = unsaid (λ n. Held n new.state) number _ replies (sym waits.prints) held
 
-put_said : (number : ℕ) (b : Bool) (old new : State) (batch : Batch) (replies : List Reply) → is_open old.mode.phase ≡ b
-    → (b ≡ true → PutRun old batch replies new) → (b ≡ false → replies ≡ reply.NotOpen ∷ []) → batch.sync ≡ true → Fresh old → Held number new → Held (later number replies) new
+put_said : (number : ℕ) (b : Bool) (old new : Driven) (batch : Batch) (replies : List Reply) → is_open old.state.mode.phase ≡ b
+    → (b ≡ true → PutRun old batch replies new) → (b ≡ false → replies ≡ reply.NotOpen ∷ []) → batch.sync ≡ true → Fresh old.state → Held number new.state → Held (later number replies) new.state
 put_said number true old new batch replies opened run rests sync fresh held = put_held number old new batch replies (run refl) opened sync fresh held
-put_said number false old new batch replies opened run rests sync fresh held = unsaid (λ n. Held n new) number _ replies (sym (rests refl)) held
+put_said number false old new batch replies opened run rests sync fresh held = unsaid (λ n. Held n new.state) number _ replies (sym (rests refl)) held
 
-put_told : (number : ℕ) (options : Options) (b : Bool) (old new : State) (key value : List ℕ) (replies : List Reply) → is_open old.mode.phase ≡ b
-    → RestsOrCalls options (rest_reply b (Put key value true)) old (Put key value true) replies new → Fresh old → Held number new → Held (later number replies) new
+put_told : (number : ℕ) (options : Options) (b : Bool) (old new : Driven) (key value : List ℕ) (replies : List Reply) → is_open old.state.mode.phase ≡ b
+    → RestsOrCalls options (rest_reply b (Put key value true)) old (Put key value true) replies new → Fresh old.state → Held number new.state → Held (later number replies) new.state
 put_told number options true old new key value replies opened run fresh held =
     put_said number true old new (put_batch key value true) replies opened (λ is. run) (λ is. cc) refl fresh held
 put_told number options false old new key value replies opened rests fresh held =
     put_said number false old new (put_batch key value true) replies opened (λ is. absurd cc) (λ is. rests.prints) refl fresh held
 
-del_told : (number : ℕ) (options : Options) (b : Bool) (old new : State) (key : List ℕ) (replies : List Reply) → is_open old.mode.phase ≡ b
-    → RestsOrCalls options (rest_reply b (Del key true)) old (Del key true) replies new → Fresh old → Held number new → Held (later number replies) new
+del_told : (number : ℕ) (options : Options) (b : Bool) (old new : Driven) (key : List ℕ) (replies : List Reply) → is_open old.state.mode.phase ≡ b
+    → RestsOrCalls options (rest_reply b (Del key true)) old (Del key true) replies new → Fresh old.state → Held number new.state → Held (later number replies) new.state
 del_told number options true old new key replies opened run fresh held =
     put_said number true old new (del_batch key true) replies opened (λ is. run) (λ is. cc) refl fresh held
 del_told number options false old new key replies opened rests fresh held =
@@ -129,9 +132,9 @@ del_told number options false old new key replies opened rests fresh held =
 told_held : (number : ℕ) (old new : Session) (command : Command) (replies : List Reply) → Carries old command replies new → Fresh old.store → Held number new.store
     → Held (acknowledged number command replies) new.store
 told_held number old new (Put key value true) replies run fresh held =
-    put_told number old.options (is_open old.store.mode.phase) old.store new.store key value replies refl run.carries fresh held
+    put_told number old.options (is_open old.store.mode.phase) (driven_in old) (driven_in new) key value replies refl run.carries fresh held
 told_held number old new (Del key true) replies run fresh held =
-    del_told number old.options (is_open old.store.mode.phase) old.store new.store key replies refl run.carries fresh held
+    del_told number old.options (is_open old.store.mode.phase) (driven_in old) (driven_in new) key replies refl run.carries fresh held
 told_held number old new command replies run fresh held = held
 
 -- ---- an opening
@@ -143,7 +146,7 @@ found_reaches : (number : ℕ) (options : Options) (old new : State) (answer : R
     → is_open old.mode.phase ≡ false → old.footing ≡ Known → Held number old → Reaches number replies
 found_reaches number options old new (Ok found) replies turn prints shut known held =
     let here : HeldBy false old.mode.left number old.story = subst (λ b. HeldBy b old.mode.left number old.story) shut (held known) in
-    let point : number ≤ found.point.seq = opened_reaches old.mode.left old.footing number old.story found.point known here turn.0.finds.goes_on in
+    let point : number ≤ found.point.seq = opened_reaches old.mode.left old.footing number found.joined old.story found.point known here turn.0.finds.goes_on in
     reached number _ replies prints (omega (arith, point, turn.0.finds.seq))
 found_reaches number options old new (Err (refusal.Device fault)) replies turn prints shut known held = reached number _ replies prints tt
 found_reaches number options old new (Err (refusal.NoCurrent file)) replies turn prints shut known held = reached number _ replies prints tt
@@ -155,15 +158,15 @@ found_reaches number options old new (Err (refusal.BadLog log at)) replies turn 
 found_reaches number options old new (Err (refusal.LogGap log expected found)) replies turn prints shut known held = reached number _ replies prints tt
 found_reaches number options old new (Err refusal.OutOfMemory) replies turn prints shut known held = cc
 
-open_reaches : (number : ℕ) (options : Options) (b : Bool) (old new : State) (replies : List Reply) → is_open old.mode.phase ≡ b → RestsOrCalls options (rest_reply b Open) old Open replies new
-    → old.footing ≡ Known → Held number old → Reaches number replies
+open_reaches : (number : ℕ) (options : Options) (b : Bool) (old new : Driven) (replies : List Reply) → is_open old.state.mode.phase ≡ b → RestsOrCalls options (rest_reply b Open) old Open replies new
+    → old.state.footing ≡ Known → Held number old.state → Reaches number replies
 open_reaches number options true old new replies opened rests known held = subst (Reaches number) (sym rests.prints) tt
-open_reaches number options false old new replies shut run known held = found_reaches number options old new run.answer replies run.turn run.prints shut known held
+open_reaches number options false old new replies shut run known held = found_reaches number options old.state new.state run.answer replies run.turn run.prints shut known held
 
 not_behind : (number : ℕ) (old new : Session) (command : Command) (replies : List Reply) → Carries old command replies new → old.store.footing ≡ Known → Held number old.store
     → IsNotBehind number command replies
 not_behind number old new Open replies run known held =
-    open_reaches number old.options (is_open old.store.mode.phase) old.store new.store replies refl run.carries known held
+    open_reaches number old.options (is_open old.store.mode.phase) (driven_in old) (driven_in new) replies refl run.carries known held
 not_behind number old new command replies run known held = tt
 
 -- ---- a run

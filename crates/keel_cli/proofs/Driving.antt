@@ -18,7 +18,7 @@ use Rattle.keel_cli.specs.Driving.{StandsAt, DriverLeads, Drives}
 use Rattle.keel_cli.specs.Stores.{StoreView, is_one_open}
 use Rattle.keel_cli.specs.Replies.{replies_of}
 use Rattle.keel_cli.specs.Runs.{last_tick, SetRun, StoreRun, IsOnStore, Carries}
-use Rattle.keel_cli.specs.Sessions.{Session, with_store}
+use Rattle.keel_cli.specs.Sessions.{Session, driven_in, with_store}
 use Rattle.keel_cli.proofs.Carrying.{open_as}
 
 module _ (V : Type 0) where
@@ -42,14 +42,14 @@ module _ (V : Type 0) where
   pub kept_open : (driver : Driver V) (name : OptionName) (value : ℕ) (session : Session) → StandsAt driver session → true ≡ is_one_open driver.store
       → DriverLeads driver (Carries session (SetOption name value) (reply.IsOpen ∷ []))
   kept_open driver name value session stands is =
-      let opened : true ≡ is_open session.store.mode.phase = is ∙ sym (open_as driver.store session.store stands.store) in
+      let opened : true ≡ is_open session.store.mode.phase = is ∙ sym (open_as driver.store (driven_in session) stands.store) in
       (session, stands, subst (λ b. SetRun b session name value (reply.IsOpen ∷ []) session) opened (record { same = refl; prints = refl }))
 
   pub set_to : (store : StoreView) (old new : Options) (tick value : ℕ) (name : OptionName) (session : Session) → StandsAt (with_values store old tick) session
       → false ≡ is_one_open store → IsWithin name value → SetsOne name value old new
       → DriverLeads (with_values store new tick) (Carries session (SetOption name value) (reply.OptionSet name value ∷ []))
   set_to store old new tick value name session stands is within sets =
-      let shut : false ≡ is_open session.store.mode.phase = is ∙ sym (open_as store session.store stands.store) in
+      let shut : false ≡ is_open session.store.mode.phase = is ∙ sym (open_as store (driven_in session) stands.store) in
       let next : Session = record session { options = new } in
       let sets_one : SetsOne name value session.options new = subst (λ (o : Options). SetsOne name value o new) (sym stands.options) sets in (
         next,
@@ -62,7 +62,7 @@ module _ (V : Type 0) where
       → false ≡ is_one_open store → ¬ IsWithin name value → new ≡ old → range ≡ range_of name
       → DriverLeads (with_values store new tick) (Carries session (SetOption name value) (reply.BadOption name range.least range.greatest ∷ []))
   out_of_range store old new tick value name range session stands is out same range_is =
-      let shut : false ≡ is_open session.store.mode.phase = is ∙ sym (open_as store session.store stands.store) in (
+      let shut : false ≡ is_open session.store.mode.phase = is ∙ sym (open_as store (driven_in session) stands.store) in (
         session,
         record { store = stands.store; options = stands.options ∙ sym same; tick = stands.tick },
         subst (λ b. SetRun b session name value (reply.BadOption name range.least range.greatest ∷ []) session) shut
@@ -77,7 +77,7 @@ module _ (V : Type 0) where
   on_store command old new replies is run = run
 
   pub drives : (old : Driver V) (store : StoreView) (answer : Result Answer OutOfMemory) (command : Command) (session : Session) → StandsAt old session → IsOnStore command
-      → CarriedOut session.options session.store command store answer → Drives session command (with_values store old.settings old.tick) answer
+      → CarriedOut session.options (driven_in session) command store answer → Drives session command (with_values store old.settings old.tick) answer
   drives old store (Ok answer) command session stands is run =
       let next = with_store run.0 session in
       (next, record { store = run.1; options = stands.options; tick = stands.tick }, on_store command session next (replies_of answer) is (record { carries = run.2; rest = refl }))

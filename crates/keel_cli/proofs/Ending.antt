@@ -14,16 +14,16 @@ use Rattle.keel_cli.proofs.GoingOn.{LineEnds-from_command}
 use Rattle.keel_cli.specs.Replies.{replies_of, text}
 use Rattle.keel_cli.specs.Runs.{Carries}
 use Rattle.keel_cli.specs.Cuts.{CutShort}
-use Rattle.keel_cli.specs.Sessions.{Session}
+use Rattle.keel_cli.specs.Sessions.{Session, driven_in}
 use Rattle.keel_cli.proofs.Carrying.{shows_own}
 
 module _ (V : Type 0) where
   pub leaves : (driver : Driver V) (P : Session → Type 0) → DriverLeads driver P → DriverLeaves driver P
-  leaves driver P leads = (leads.0, shows_own driver.store leads.0.store leads.1.store, leads.2)
+  leaves driver P leads = (leads.0, shows_own driver.store (driven_in leads.0) leads.1.store, leads.2)
 
   -- the run stops in the session that it is in
   pub leaves_now : {P : Session → Type 0} (driver : Driver V) (now : Session) → StandsAt driver now → P now → DriverLeaves driver P
-  leaves_now driver now stands is = (now, shows_own driver.store now.store stands.store, is)
+  leaves_now driver now stands is = (now, shows_own driver.store (driven_in now) stands.store, is)
 
   -- a line ends as its command does
   pub line_of_command : {Done : Type 0} (ended : Result Done LineStop) (now : Session) (driver : Driver V) (held holds : Option (List ℕ)) (line : List ℕ) (command : Command) → length line ≤ longest_line

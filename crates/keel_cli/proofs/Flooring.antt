@@ -17,13 +17,13 @@ use Rattle.keel_machine.specs.Admission.{admit_after}
 use Rattle.keel_disk.specs.Directory.{Named}
 use Rattle.keel_disk.specs.Plain.{image_read}
 use Rattle.keel_machine.specs.Crash.{has_story, LeavesOf, Leaves}
-use Rattle.keel_machine.specs.Opening.{goes_on_from, story_opened, GoesOnWith}
+use Rattle.keel_machine.specs.Opening.{goes_on_from, story_opened, GoesOnWith, GoesOn}
 use Rattle.keel_machine.specs.Resuming as boot
 use Rattle.keel_draft.specs.Drafts.{Draft, count_ops}
 use Rattle.keel_resume.specs.Plans as plans
 use Rattle.keel_group.specs.Queue.{Ticketed}
-use Rattle.keel_machine.specs.States.{State, Footing, Known, Unknown, Phase, Shut, Booting, Open, Leaving, Nothing, Crashed, Left, Mode, Story, Group, Act, CloseLog, MakeLog, SyncDirectory, AddRecords, SyncLog, Resumption, is_open, is_left, handed, published, cut_story, point_of, left_of}
-use Rattle.keel_machine.specs.Turns.{Event, Opening, Admitting, Writing as Makes, Resuming, Flushing, TakingOutcome, Getting, Scanning, Listing, TellingError, TellingLevels, Arranging, Crashing, Starting, Finishing, Turn, Answers, after}
+use Rattle.keel_machine.specs.States.{State, Footing, Known, Unknown, Phase, Shut, Booting, Open, Leaving, Nothing, Crashed, Left, Mode, Story, Group, Act, CloseLog, MakeLog, SyncDirectory, AddRecords, SyncLog, Resumption, is_open, is_left, handed, published, cut_story, point_of, left_of, Closing, joined_story}
+use Rattle.keel_machine.specs.Turns.{Event, Opening, Admitting, Writing as Makes, Resuming, Flushing, TakingOutcome, Getting, Scanning, Listing, TellingError, TellingLevels, Arranging, Crashing, Starting, Finishing, Turn, Answers, after, ShuttingDown}
 use Rattle.keel_machine.specs.Writing.{started, started_or, ready}
 use Rattle.keel_machine.specs.WritingAfter.{goes_on, switched, with_made, act_done, first_done, first_failed, group_done, group_failed, call_done, call_failed, write_after}
 use Rattle.keel_recovery.specs.Machine.{MayCall}
@@ -76,6 +76,10 @@ firm_cut count story enough =
 
 pub firm_last : (story : Story) → firm_seq story ≤ (point_of story).seq
 firm_last story = omega (arith, taken_within story.floor story.log, seq_folded story.start story.log)
+
+-- batches of limbo that an opening finds lower no number
+firm_joined : (count : ℕ) (story : Story) → firm_seq story ≤ firm_seq (joined_story count story)
+firm_joined count story = omega (arith, taken_grows story.floor story.floor story.log (take count story.limbo) (omega arith))
 
 -- ---- of a write step
 
@@ -217,6 +221,7 @@ firm_resumed s drafts boot_step.OutOfMemory = same_boot s
 pub firm_admitted : (s : State) (batch : Batch) (answer : Admit) → ((admit_after s batch answer).story ≡ s.story) × ((admit_after s batch answer).footing ≡ s.footing) × ((admit_after s batch answer).mode ≡ s.mode)
 firm_admitted s batch (admit.Queued ticket) = (refl, refl, refl)
 firm_admitted s batch (admit.BadSize part size) = (refl, refl, refl)
+firm_admitted s batch admit.Closing = (refl, refl, refl)
 firm_admitted s batch admit.Booting = (refl, refl, refl)
 firm_admitted s batch (admit.Stopped failure) = (refl, refl, refl)
 firm_admitted s batch (admit.Spent counter) = (refl, refl, refl)
@@ -226,13 +231,13 @@ firm_admitted s batch admit.OutOfMemory = (refl, refl, refl)
 
 -- ---- a number that stays firm
 
--- Of a store that is open, or that a crash left, the story's firm number is that number at least. Before a first
--- opening it is none, and no store was handed back.
+-- Of a store that is open, or that was left, the story's firm number is that number at least. Before a first opening it
+-- is none.
 abbrev pub HeldBy : Bool → Leaving → ℕ → Story → Type 0
 HeldBy true leaving number story = number ≤ firm_seq story
 HeldBy false Crashed number story = number ≤ firm_seq story
 HeldBy false Nothing number story = number ≡ 0
-HeldBy false Left number story = ⊥
+HeldBy false Left number story = number ≤ firm_seq story
 
 -- so it is on a known footing
 abbrev pub Held : ℕ → State → Type 0
@@ -248,27 +253,34 @@ still_held : (number : ℕ) (s next : State) → is_open s.mode.phase ≡ true �
 still_held number s next opened opens footing firm held =
     open_held number next opens (λ known. omega (arith, firm, held_open number s opened (sym footing ∙ known) held))
 
-opened_firm : (left : Leaving) (footing : Footing) (number : ℕ) (story : Story) (point : Point) → footing ≡ Known → HeldBy false left number story
-    → number ≤ firm_seq (story_opened (goes_on_from left footing) point story)
-opened_firm Crashed Known number story point known held = held
-opened_firm Crashed Unknown number story point known held = cc
-opened_firm Nothing footing number story point known held = omega (arith, held)
-opened_firm Left footing number story point known held = absurd held
+opened_firm : (left : Leaving) (footing : Footing) (number joined : ℕ) (story : Story) (point : Point) → footing ≡ Known → HeldBy false left number story
+    → number ≤ firm_seq (story_opened (goes_on_from left footing) joined point story)
+opened_firm Crashed Known number joined story point known held = omega (arith, held, firm_joined joined story)
+opened_firm Crashed Unknown number joined story point known held = cc
+opened_firm Left Known number joined story point known held = omega (arith, held, firm_joined joined story)
+opened_firm Left Unknown number joined story point known held = cc
+opened_firm Nothing footing number joined story point known held = omega (arith, held)
 
--- an opening that goes on with a story finds its last point
-pub opened_reaches : (left : Leaving) (footing : Footing) (number : ℕ) (story : Story) (point : Point) → footing ≡ Known → HeldBy false left number story
-    → GoesOnWith (goes_on_from left footing) story point → number ≤ point.seq
-opened_reaches Crashed Known number story point known held goes = omega (arith, held, firm_last story, ap (λ (p : Point). p.seq) goes)
-opened_reaches Crashed Unknown number story point known held goes = cc
-opened_reaches Nothing footing number story point known held goes = omega (arith, held)
-opened_reaches Left footing number story point known held goes = absurd held
+-- an opening that goes on with a story finds the last point of what it then publishes
+goes_reaches : (number joined : ℕ) (story : Story) (point : Point) → number ≤ firm_seq story → GoesOn story joined point → number ≤ point.seq
+goes_reaches number joined story point held goes =
+    omega (arith, held, firm_joined joined story, firm_last (joined_story joined story), ap (λ (p : Point). p.seq) goes.point_is)
+
+pub opened_reaches : (left : Leaving) (footing : Footing) (number joined : ℕ) (story : Story) (point : Point) → footing ≡ Known → HeldBy false left number story
+    → GoesOnWith (goes_on_from left footing) story joined point → number ≤ point.seq
+opened_reaches Crashed Known number joined story point known held goes = goes_reaches number joined story point held goes
+opened_reaches Crashed Unknown number joined story point known held goes = cc
+opened_reaches Left Known number joined story point known held goes = goes_reaches number joined story point held goes
+opened_reaches Left Unknown number joined story point known held goes = cc
+opened_reaches Nothing footing number joined story point known held goes = omega (arith, held)
 
 crashed_held : (phase : Phase) (leaving : Leaving) (number count : ℕ) (story : Story) → ((is_open phase || is_left leaving) ≡ true → story.floor ≤ count) → HeldBy (is_open phase) leaving number story
     → HeldBy false (if is_open phase || is_left leaving then Crashed else Nothing) number (cut_story count story)
 crashed_held Shut Nothing number count story least held = held
 crashed_held Shut Crashed number count story least held = omega (arith, held, firm_cut count story (least refl))
-crashed_held Shut Left number count story least held = absurd held
+crashed_held Shut Left number count story least held = omega (arith, held, firm_cut count story (least refl))
 crashed_held Booting leaving number count story least held = omega (arith, held, firm_cut count story (least refl))
+crashed_held Closing leaving number count story least held = omega (arith, held, firm_cut count story (least refl))
 crashed_held Open leaving number count story least held = omega (arith, held, firm_cut count story (least refl))
 
 prefix_least : (b : Bool) (count : ℕ) (story : Story) (image : Named (List ℕ)) → LeavesOf b count story image → b ≡ true → story.floor ≤ count
@@ -285,7 +297,7 @@ left_least Unknown mode story count before behind leaves begun = absurd leaves
 
 answer_held : (number : ℕ) (s : State) (event : Event) (device : Seen) → MayCall s event → Answers s event device → Held number s → Held number (after s event device)
 answer_held number s (Opening options (Ok found)) device may a held = λ known.
-    opened_firm s.mode.left s.footing number s.story found.point known (subst (λ b. HeldBy b s.mode.left number s.story) may (held known))
+    opened_firm s.mode.left s.footing number found.joined s.story found.point known (subst (λ b. HeldBy b s.mode.left number s.story) may (held known))
 answer_held number s (Opening options (Err refused)) device may a held = held
 answer_held number s (Admitting batch answer) device may a held =
     let same = firm_admitted s batch answer in
@@ -313,7 +325,8 @@ answer_held number s (Crashing pick None) device may a held = λ known. cc
 answer_held number s (Starting answer) device may a held =
     let same = still_there s answer in
     still_held number s (after s (Starting answer) device) may (open_started s answer may) same.footing (omega (arith, ap firm_seq same.story)) held
-answer_held number s Finishing device may a held = absurd may
+answer_held number s (ShuttingDown tickets) device may a held = still_held number s (after s (ShuttingDown tickets) device) may refl refl (omega arith) held
+answer_held number s Finishing device may a held = λ known. held_open number s may known held
 
 -- every turn keeps a firm number
 pub keep_held : (number : ℕ) (old new : State) (event : Event) → MayCall old event → Turn old event new → Held number old → Held number new
@@ -336,6 +349,7 @@ known_before s (Arranging rule answer) device known = known
 known_before s (Crashing pick (Some count)) device known = known
 known_before s (Crashing pick None) device known = cc
 known_before s (Starting answer) device known = sym (still_there s answer).footing ∙ known
+known_before s (ShuttingDown tickets) device known = known
 known_before s Finishing device known = known
 
 -- what is known behind a turn was known before it

@@ -12,9 +12,9 @@ use Rattle.keel_group.specs.Forming.{next_size}
 use Rattle.keel_group.specs.Queue.{Ticketed, batches_of}
 use Rattle.keel_machine.specs.Admission.{ops_of, batches_of_group, queued}
 use Rattle.keel_machine.specs.Flushing.{flush_after}
-use Rattle.keel_machine.specs.Opening.{Found, opened, story_opened, goes_on_from, GoesOnWith}
+use Rattle.keel_machine.specs.Opening.{Found, GoesOn, opened, story_opened, goes_on_from, GoesOnWith}
 use Rattle.keel_machine.specs.Resuming as boot
-use Rattle.keel_machine.specs.States.{State, Footing, Known, Unknown, Phase, Shut, Booting, Open, Leaving, Nothing, Crashed, Left, Story, Group, Act, CloseLog, MakeLog, SyncDirectory, AddRecords, SyncLog, Resumption, Slot, Writing, is_open, is_left, left_of, cut_story}
+use Rattle.keel_machine.specs.States.{State, Footing, Known, Unknown, Phase, Shut, Booting, Open, Closing, Leaving, Nothing, Crashed, Left, Story, Group, Act, CloseLog, MakeLog, SyncDirectory, AddRecords, SyncLog, Resumption, Slot, Writing, is_open, is_left, left_of, cut_story, joined_story, point_of}
 use Rattle.keel_machine.specs.Writing.{ready, started, started_or}
 use Rattle.keel_machine.specs.WritingAfter.{with_made, with_log, log_longer, file_drawn, switched, batches_handed, goes_on, act_done, act_failed, first_done, first_failed, group_done, group_failed, call_done, call_failed, queue_turned, write_after}
 use Rattle.keel_machine.specs.declared.steps.JobStep.{JobStep}
@@ -281,10 +281,16 @@ abbrev pub LeftWith : List ℕ → Option Acked → Story → Type 0
 LeftWith key None story = Unit {0}
 LeftWith key (Some write) story = HasLeft key write story
 
+-- behind a close it has the last write, and what is in limbo leaves the key alone
+pub record ClosedWith (key : List ℕ) (last : Option Acked) (story : Story) : Type 0 where
+  pub logged : Logged key last story.start story.log
+  pub limbo : AllFree key last story.limbo
+
 abbrev pub HeldBy : List ℕ → Option Acked → Bool → Leaving → State → Type 0
 HeldBy key last true leaving s = HasLast key last s
 HeldBy key last false Crashed s = LeftWith key last s.story
-HeldBy key last false leaving s = last ≡ None
+HeldBy key last false Left s = ClosedWith key last s.story
+HeldBy key last false Nothing s = last ≡ None
 
 -- so it is on a known footing
 abbrev pub Holds : List ℕ → Option Acked → State → Type 0
@@ -300,19 +306,25 @@ held_none : (key : List ℕ) (b : Bool) (leaving : Leaving) (s : State) → Held
 held_none key true leaving s = last_none key s
 held_none key false Crashed s = tt
 held_none key false Nothing s = refl
-held_none key false Left s = refl
+held_none key false Left s = record { logged = tt; limbo = free_none key s.story.limbo }
 
 pub holds_none : (key : List ℕ) (s : State) → Holds key None s
 holds_none key s = λ known. held_none key (is_open s.mode.phase) s.mode.left s
 
 -- ---- a crash
 
-crashed_from : (key : List ℕ) (last : Option Acked) (count : ℕ) (s : State) → HasStory key last s → LeftWith key last (cut_story count s.story)
-crashed_from key None count s has = tt
-crashed_from key (Some write) count s has = record {
-  lasts = lasts_take key write count s.story.start (s.story.log ++ s.story.limbo) (lasts_append key write s.story.start s.story.log s.story.limbo has.logged.0 has.logged.1 has.limbo);
+pub closed_holds : (key : List ℕ) (last : Option Acked) {s : State} → HasStory key last s → ClosedWith key last s.story
+closed_holds key last has = record { logged = has.logged; limbo = has.limbo }
+
+crashed_closed : (key : List ℕ) (last : Option Acked) (count : ℕ) (story : Story) → ClosedWith key last story → LeftWith key last (cut_story count story)
+crashed_closed key None count story has = tt
+crashed_closed key (Some write) count story has = record {
+  lasts = lasts_take key write count story.start (story.log ++ story.limbo) (lasts_append key write story.start story.log story.limbo has.logged.0 has.logged.1 has.limbo);
   none = refl;
 }
+
+crashed_from : (key : List ℕ) (last : Option Acked) (count : ℕ) (s : State) → HasStory key last s → LeftWith key last (cut_story count s.story)
+crashed_from key last count s has = crashed_closed key last count s.story (closed_holds key last has)
 
 crashed_again : (key : List ℕ) (last : Option Acked) (count : ℕ) (story : Story) → LeftWith key last story → LeftWith key last (cut_story count story)
 crashed_again key None count story left = tt
@@ -327,8 +339,9 @@ pub crashed_holds : (key : List ℕ) (last : Option Acked) (phase : Phase) (leav
     → HeldBy key last (is_open phase) leaving s → HeldBy key last false (if is_open phase || is_left leaving then Crashed else Nothing) next
 crashed_holds key last Shut Nothing count s next story held = held
 crashed_holds key last Shut Crashed count s next story held = subst (LeftWith key last) (sym story) (crashed_again key last count s.story held)
-crashed_holds key last Shut Left count s next story held = let none : last ≡ None = held in subst (λ (l : Option Acked). LeftWith key l next.story) (sym none) tt
+crashed_holds key last Shut Left count s next story held = subst (LeftWith key last) (sym story) (crashed_closed key last count s.story held)
 crashed_holds key last Booting leaving count s next story held = subst (LeftWith key last) (sym story) (crashed_from key last count s held.story)
+crashed_holds key last Closing leaving count s next story held = subst (LeftWith key last) (sym story) (crashed_from key last count s held.story)
 crashed_holds key last Open leaving count s next story held = subst (LeftWith key last) (sym story) (crashed_from key last count s held.story)
 
 -- ---- an opening
@@ -338,27 +351,61 @@ opens_with : (key : List ℕ) (write : Acked) (seq : ℕ) (options : Options) (f
 opens_with key write seq options found s true is has = has refl
 opens_with key write seq options found s false is has = last_none key (opened options found s)
 
-opens_from : (key : List ℕ) (write : Acked) (seq : ℕ) (options : Options) (found : Found) (s : State) (left : Leaving) (footing : Footing) → s.mode.left ≡ left → s.footing ≡ footing → footing ≡ Known
-    → HeldBy key (Some write) false left s → GoesOnWith (goes_on_from left footing) s.story found.point → found.point.seq ≡ seq → write.number ≤ seq
-    → HasLast key (Some write) (opened options found s)
-opens_from key write seq options found s Crashed Known left_is footing_is known held goes seq_is reached =
-    let same : (opened options found s).story ≡ s.story =
-    ap (λ (l : Leaving). story_opened (goes_on_from l s.footing) found.point s.story) left_is ∙ ap (λ (f : Footing). story_opened (goes_on_from Crashed f) found.point s.story) footing_is in
-    let at : (fold_batches s.story.start s.story.log).seq ≡ seq = sym (ap (λ (p : Point). p.seq) goes) ∙ seq_is in
+free_first : (key : List ℕ) (last : Option Acked) (count : ℕ) (batches : List (List Op)) → AllFree key last batches → AllFree key last (take count batches)
+free_first key last zero batches free = tt
+free_first key last (suc count) [] free = free
+free_first key last (suc count) (ops ∷ batches) free = (free.0, free_first key last count batches free.1)
+
+free_rest : (key : List ℕ) (last : Option Acked) (count : ℕ) (batches : List (List Op)) → AllFree key last batches → AllFree key last (drop count batches)
+free_rest key last zero batches free = free
+free_rest key last (suc count) [] free = free
+free_rest key last (suc count) (ops ∷ batches) free = free_rest key last count batches free.1
+
+-- the last write is in what an opening goes on with
+joined_last : (key : List ℕ) (last : Option Acked) (options : Options) (found : Found) (s : State) (left : Leaving) → s.mode.left ≡ left → s.footing ≡ Known → goes_on_from left Known ≡ true
+    → ClosedWith key last s.story → HasLast key last (opened options found s)
+joined_last key last options found s left left_is known goes has =
+    let same : (opened options found s).story ≡ joined_story found.joined s.story =
+    ap (λ (l : Leaving). story_opened (goes_on_from l s.footing) found.joined found.point s.story) left_is
+    ∙ (ap (λ (f : Footing). story_opened (goes_on_from left f) found.joined found.point s.story) known ∙ ap (λ (b : Bool). story_opened b found.joined found.point s.story) goes) in
     record {
       story = record {
-        logged = subst (λ (story : Story). Logged key (Some write) story.start story.log) (sym same) (held.lasts, omega (arith, reached, at));
-        limbo = subst (λ (story : Story). AllFree key (Some write) story.limbo) (sym same) (subst (AllFree key (Some write)) (sym held.none) tt);
+        logged = subst (λ (story : Story). Logged key last story.start story.log) (sym same)
+            (logged_append key last s.story.start s.story.log (take found.joined s.story.limbo) has.logged (free_first key last found.joined s.story.limbo has.limbo));
+        limbo = subst (λ (story : Story). AllFree key last story.limbo) (sym same) (free_rest key last found.joined s.story.limbo has.limbo);
         group = tt;
       };
       waits = tt;
     }
+
+-- behind a crash nothing is in limbo, so the point is the one of the log
+left_reached : (key : List ℕ) (write : Acked) (joined seq : ℕ) (story : Story) (point : Point) → HasLeft key write story → GoesOn story joined point → point.seq ≡ seq → write.number ≤ seq
+    → ClosedWith key (Some write) story
+left_reached key write joined seq story point left goes seq_is reached =
+    let none : take joined story.limbo ≡ [] = ap (take joined) left.none ∙ taken_none joined in
+    let same : (point_of (joined_story joined story)).seq ≡ (fold_batches story.start story.log).seq =
+    ap (λ (l : List (List Op)). (fold_batches story.start (story.log ++ l)).seq) none ∙ ap (λ (l : List (List Op)). (fold_batches story.start l).seq) (append-nil story.log) in
+    record {
+      logged = (left.lasts, omega (arith, reached, same, seq_is, ap (λ (p : Point). p.seq) goes.point_is));
+      limbo = subst (AllFree key (Some write)) (sym left.none) tt;
+    }
+  where
+    taken_none : (count : ℕ) → take count (let none : List (List Op) = [] in none) ≡ []
+    taken_none zero = refl
+    taken_none (suc count) = refl
+
+opens_from : (key : List ℕ) (write : Acked) (seq : ℕ) (options : Options) (found : Found) (s : State) (left : Leaving) (footing : Footing) → s.mode.left ≡ left → s.footing ≡ footing → footing ≡ Known
+    → HeldBy key (Some write) false left s → GoesOnWith (goes_on_from left footing) s.story found.joined found.point → found.point.seq ≡ seq → write.number ≤ seq
+    → HasLast key (Some write) (opened options found s)
+opens_from key write seq options found s Crashed Known left_is footing_is known held goes seq_is reached =
+    joined_last key (Some write) options found s Crashed left_is footing_is refl (left_reached key write found.joined seq s.story found.point held goes seq_is reached)
+opens_from key write seq options found s Left Known left_is footing_is known held goes seq_is reached = joined_last key (Some write) options found s Left left_is footing_is refl held
 opens_from key write seq options found s Crashed Unknown left_is footing_is known held goes seq_is reached = cc
+opens_from key write seq options found s Left Unknown left_is footing_is known held goes seq_is reached = cc
 opens_from key write seq options found s Nothing footing left_is footing_is known held goes seq_is reached = cc
-opens_from key write seq options found s Left footing left_is footing_is known held goes seq_is reached = cc
 
 pub opens : (key : List ℕ) (last : Option Acked) (seq : ℕ) (options : Options) (found : Found) (s : State) → s.footing ≡ Known → HeldBy key last false s.mode.left s
-    → GoesOnWith (goes_on_from s.mode.left s.footing) s.story found.point → found.point.seq ≡ seq → HasLast key (found_to seq last) (opened options found s)
+    → GoesOnWith (goes_on_from s.mode.left s.footing) s.story found.joined found.point → found.point.seq ≡ seq → HasLast key (found_to seq last) (opened options found s)
 opens key None seq options found s known held goes seq_is = last_none key (opened options found s)
 opens key (Some write) seq options found s known held goes seq_is =
     opens_with key write seq options found s (nat_le write.number seq) refl

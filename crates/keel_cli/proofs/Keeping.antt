@@ -18,14 +18,14 @@ use Rattle.keel_machine.specs.declared.steps.ResumeStep.TheVariants as boot_step
 use Rattle.keel_machine.specs.declared.steps.WriteStep.{WriteStep}
 use Rattle.keel_machine.specs.declared.steps.WriteStep.TheVariants as step
 use Rattle.keel_machine.specs.States.{State, Mode}
-use Rattle.keel_machine.specs.Turns.{Event, Opening, Admitting, Writing, Resuming, Flushing, TakingOutcome, Getting, Scanning, Listing, TellingError, TellingLevels, Arranging, Crashing, Starting, Turn}
+use Rattle.keel_machine.specs.Turns.{Event, Opening, Admitting, Writing, Resuming, Flushing, TakingOutcome, Getting, Scanning, Listing, TellingError, TellingLevels, Arranging, Crashing, Starting, Turn, ShuttingDown, Finishing}
 use Rattle.keel_base.specs.declared.options.Options.{Options}
 use Rattle.keel_open.specs.declared.refusal.OpenRefusal.TheVariants as refusal
 use Rattle.keel_draft.specs.Drafts.{Draft}
 use Rattle.keel_recovery.specs.Machine.{MayCall}
 use Rattle.keel_machine.specs.States.{is_open}
 use Rattle.keel_script.specs.declared.command.Command.{Command}
-use Rattle.keel_script.specs.declared.command.Command.TheVariants.{SetOption, Open, Put, Del, QueuePut, QueueDel, Write, Flush, Resume, ResumeStep, Drain, Tick, Get, Scan, Error, Files, Levels, Fail, Capacity, Crash}
+use Rattle.keel_script.specs.declared.command.Command.TheVariants.{SetOption, Open, Put, Del, QueuePut, QueueDel, Write, Flush, Resume, ResumeStep, Drain, Tick, Get, Scan, Error, Files, Levels, Fail, Capacity, Crash, Close}
 use Rattle.keel_script.specs.declared.reply.Reply.{Reply}
 use Rattle.keel_cli.specs.declared.lines.LineStop.{LineStop}
 use Rattle.keel_cli.specs.declared.lines.LineStop.TheVariants.{Refused, Unwritten, NoMemory}
@@ -35,7 +35,8 @@ use Rattle.keel_cli.specs.Drains.{BootMoves, Wrote, Round, Rounds, DrainRun, Dra
 use Rattle.keel_cli.specs.LineEnds.{Progress, Stops, LinesEnd}
 use Rattle.keel_cli.specs.Puts.{put_batch, del_batch, PutRun, PutCut, QueueRun, Queues, Waits}
 use Rattle.keel_cli.specs.Runs.{rest_reply, CrashRun, Calls, RestsOrCalls, CarriesOnStore, SetRun, Carries, CallsPartly, Run}
-use Rattle.keel_cli.specs.Sessions.{Session}
+use Rattle.keel_cli.specs.Jobs.{Driven, driven}
+use Rattle.keel_cli.specs.Sessions.{Session, driven_in}
 use Rattle.keel_cli.proofs.Beside.{open_flushed}
 use Rattle.keel_cli.proofs.Modes.{mode_written, mode_admitted, open_resumed}
 
@@ -80,46 +81,46 @@ module _ (C : State → Type 0) (keep : (old new : State) (event : Event) → Ma
 
   -- ---- writes
 
-  pub waited : (old new : State) (ticket : ℕ) (steps : List WriteStep) → Waits old ticket steps new → IsKept old → IsKept new
+  pub waited : (old new : Driven) (ticket : ℕ) (steps : List WriteStep) → Waits old ticket steps new → IsKept old.state → IsKept new.state
   waited old new ticket [] same is = rw same is
   waited old new ticket (made ∷ earlier) waits is =
-      written waits.1 new None made waits.4 (taken waits.0 waits.1 ticket outcome.Waiting waits.3 (waited old waits.0 ticket earlier waits.2 is))
+      written waits.1 new.state waits.0.jobs.write made waits.4.turn (taken waits.0.state waits.1 ticket outcome.Waiting waits.3 (waited old waits.0 ticket earlier waits.2 is))
 
-  queued : (old new : State) (batch : Batch) (ticket : ℕ) (steps : List WriteStep) → Queues old batch ticket steps new → IsKept old → IsKept new
+  queued : (old new : Driven) (batch : Batch) (ticket : ℕ) (steps : List WriteStep) → Queues old batch ticket steps new → IsKept old.state → IsKept new.state
   queued old new batch ticket steps queues is =
-      waited queues.mid new ticket steps queues.waits (admitted old queues.mid batch (admit.Queued ticket) queues.queued is)
+      waited (driven queues.mid old.jobs) new ticket steps queues.waits (admitted old.state queues.mid batch (admit.Queued ticket) queues.queued is)
 
-  put : (old new : State) (batch : Batch) (replies : List Reply) → PutRun old batch replies new → IsKept old → C new
-  put old new batch replies (inl refused) is = (admitted old new batch refused.answer refused.turn is).kept
+  put : (old new : Driven) (batch : Batch) (replies : List Reply) → PutRun old batch replies new → IsKept old.state → C new.state
+  put old new batch replies (inl refused) is = (admitted old.state new.state batch refused.answer refused.turn.turn is).kept
   put old new batch replies (inr (inl settled)) is =
-      (taken settled.last new settled.ticket settled.outcome settled.taken (queued old settled.last batch settled.ticket settled.steps settled.queues is)).kept
+      (taken settled.last.state new.state settled.ticket settled.outcome settled.taken.turn (queued old settled.last batch settled.ticket settled.steps settled.queues is)).kept
   put old new batch replies (inr (inr waits)) is = (queued old new batch waits.ticket (waits.step ∷ waits.steps) waits.queues is).kept
 
-  put_cut : (old new : State) (batch : Batch) → PutCut old batch new → IsKept old → C new
-  put_cut old new batch (inl turn) is = (admitted old new batch admit.OutOfMemory turn is).kept
+  put_cut : (old new : Driven) (batch : Batch) → PutCut old batch new → IsKept old.state → C new.state
+  put_cut old new batch (inl turn) is = (admitted old.state new.state batch admit.OutOfMemory turn.turn is).kept
   put_cut old new batch (inr cut) is = (queued old new batch cut.0 (step.OutOfMemory ∷ cut.1) cut.2 is).kept
 
-  queued_alone : (old new : State) (batch : Batch) (replies : List Reply) → QueueRun old batch replies new → IsKept old → C new
-  queued_alone old new batch replies (inl refused) is = (admitted old new batch refused.answer refused.turn is).kept
-  queued_alone old new batch replies (inr queues) is = (admitted old new batch (admit.Queued queues.ticket) queues.turn is).kept
+  queued_alone : (old new : Driven) (batch : Batch) (replies : List Reply) → QueueRun old batch replies new → IsKept old.state → C new.state
+  queued_alone old new batch replies (inl refused) is = (admitted old.state new.state batch refused.answer refused.turn.turn is).kept
+  queued_alone old new batch replies (inr queues) is = (admitted old.state new.state batch (admit.Queued queues.ticket) queues.turn.turn is).kept
 
   -- ---- drains
 
-  pub booted : (old new : State) (moves : ℕ) → BootMoves old moves new → IsKept old → IsKept new
-  booted old new moves boot is = resumed old new boot.drafts None boot.step boot.turn is
+  pub booted : (old new : Driven) (moves : ℕ) → BootMoves old moves new → IsKept old.state → IsKept new.state
+  booted old new moves boot is = resumed old.state new.state boot.drafts old.jobs.resume boot.step boot.turn.turn is
 
-  pub wrote : (limit made : ℕ) (old : State) (moves : ℕ) (new : State) → Wrote limit made old moves new → IsKept old → IsKept new
-  wrote limit made old moves new half is = written half.mid new None half.write.step half.write.turn (booted old half.mid half.of_boot half.boot is)
+  pub wrote : (limit made : ℕ) (old : Driven) (moves : ℕ) (new : Driven) → Wrote limit made old moves new → IsKept old.state → IsKept new.state
+  wrote limit made old moves new half is = written half.mid.state new.state half.mid.jobs.write half.write.step half.write.turn.turn (booted old half.mid half.of_boot half.boot is)
 
-  gone_round : (limit made : ℕ) (old : State) (moves : ℕ) (new : State) → Round limit made old moves new → IsKept old → IsKept new
+  gone_round : (limit made : ℕ) (old : Driven) (moves : ℕ) (new : Driven) → Round limit made old moves new → IsKept old.state → IsKept new.state
   gone_round limit made old moves new round is =
-      flushed round.behind new round.flush.draft None round.flush.step round.flush.turn (wrote limit made old round.before round.behind round.wrote is)
+      flushed round.behind.state new.state round.flush.draft round.behind.jobs.flush round.flush.step round.flush.turn.turn (wrote limit made old round.before round.behind round.wrote is)
 
-  pub went : (limit : ℕ) (old : State) (rounds made : ℕ) (new : State) → Rounds limit old rounds made new → IsKept old → IsKept new
+  pub went : (limit : ℕ) (old : Driven) (rounds made : ℕ) (new : Driven) → Rounds limit old rounds made new → IsKept old.state → IsKept new.state
   went limit old zero made new same is = rw same.1 is
   went limit old (suc rounds) made new gone is = gone_round limit gone.1 gone.0 gone.2 new gone.4 (went limit old rounds gone.1 gone.0 gone.3 is)
 
-  drained : (limit : ℕ) (old new : State) (replies : List Reply) → DrainRun limit old replies new → IsKept old → C new
+  drained : (limit : ℕ) (old new : Driven) (replies : List Reply) → DrainRun limit old replies new → IsKept old.state → C new.state
   drained limit old new replies (inl quiet) is =
       (gone_round limit quiet.made quiet.last 0 new quiet.round (went limit old quiet.begun.rounds quiet.made quiet.last quiet.begun.went is)).kept
   drained limit old new replies (inr (inl more)) is =
@@ -128,25 +129,25 @@ module _ (C : State → Type 0) (keep : (old new : State) (event : Event) → Ma
       (wrote limit more.made more.last more.moves new more.wrote (went limit old more.begun.rounds more.made more.last more.begun.went is)).kept
   drained limit old new replies (inr (inr (inr more))) is = (went limit old more.rounds limit new more.went is).kept
 
-  drain_cut : (limit : ℕ) (old new : State) → DrainCut limit old new → IsKept old → C new
+  drain_cut : (limit : ℕ) (old new : Driven) → DrainCut limit old new → IsKept old.state → C new.state
   drain_cut limit old new (inl cut) is =
-      (resumed cut.last new cut.drafts None boot_step.OutOfMemory cut.turn (went limit old cut.begun.rounds cut.made cut.last cut.begun.went is)).kept
+      (resumed cut.last.state new.state cut.drafts cut.last.jobs.resume boot_step.OutOfMemory cut.turn.turn (went limit old cut.begun.rounds cut.made cut.last cut.begun.went is)).kept
   drain_cut limit old new (inr (inl cut)) is =
       let before = booted cut.last cut.mid cut.of_boot cut.boot (went limit old cut.begun.rounds cut.made cut.last cut.begun.went is) in
-      (written cut.mid new None step.OutOfMemory cut.turn before).kept
+      (written cut.mid.state new.state cut.mid.jobs.write step.OutOfMemory cut.turn.turn before).kept
   drain_cut limit old new (inr (inr cut)) is =
       let before = wrote limit cut.made cut.last cut.moves cut.behind cut.wrote (went limit old cut.begun.rounds cut.made cut.last cut.begun.went is) in
-      (flushed cut.behind new cut.draft None job_step.OutOfMemory cut.turn before).kept
+      (flushed cut.behind.state new.state cut.draft cut.behind.jobs.flush job_step.OutOfMemory cut.turn.turn before).kept
 
   -- ---- commands on the store
 
-  crashed : (b : Bool) (old new : State) (pick : Pick) (replies : List Reply) → CrashRun b old pick replies new → C old → C new
-  crashed true old new pick replies run kept = keep old new (Crashing pick run.0) tt run.1 kept
+  crashed : (b : Bool) (old new : Driven) (pick : Pick) (replies : List Reply) → CrashRun b old pick replies new → C old.state → C new.state
+  crashed true old new pick replies run kept = keep old.state new.state (Crashing pick run.0) tt run.1 kept
   crashed false old new pick replies rests kept = rw rests.same kept
 
-  calls : (options : Options) (b : Bool) (old new : State) (command : Command) (replies : List Reply) → is_open old.mode.phase ≡ b → rest_reply b command ≡ None → Calls options old command replies new → C old → C new
+  calls : (options : Options) (b : Bool) (old new : Driven) (command : Command) (replies : List Reply) → is_open old.state.mode.phase ≡ b → rest_reply b command ≡ None → Calls options old command replies new → C old.state → C new.state
   calls options true old new Open replies opened none run kept = none_some _ none
-  calls options false old new Open replies opened none run kept = keep old new (Opening options run.answer) opened run.turn kept
+  calls options false old new Open replies opened none run kept = keep old.state new.state (Opening options run.answer) opened run.turn kept
   calls options true old new (Put key value sync) replies opened none run kept = put old new (put_batch key value sync) replies run (record { opened = opened; kept = kept })
   calls options false old new (Put key value sync) replies opened none run kept = none_some _ none
   calls options true old new (Del key sync) replies opened none run kept = put old new (del_batch key sync) replies run (record { opened = opened; kept = kept })
@@ -155,71 +156,74 @@ module _ (C : State → Type 0) (keep : (old new : State) (event : Event) → Ma
   calls options false old new (QueuePut client key value sync) replies opened none run kept = none_some _ none
   calls options true old new (QueueDel client key sync) replies opened none run kept = queued_alone old new (del_batch key sync) replies run (record { opened = opened; kept = kept })
   calls options false old new (QueueDel client key sync) replies opened none run kept = none_some _ none
-  calls options true old new Write replies opened none run kept = (written old new None run.step run.turn (record { opened = opened; kept = kept })).kept
+  calls options true old new Write replies opened none run kept = (written old.state new.state old.jobs.write run.step run.turn.turn (record { opened = opened; kept = kept })).kept
   calls options false old new Write replies opened none run kept = none_some _ none
-  calls options true old new Flush replies opened none run kept = (flushed old new run.draft None run.step run.turn (record { opened = opened; kept = kept })).kept
+  calls options true old new Flush replies opened none run kept = (flushed old.state new.state run.draft old.jobs.flush run.step run.turn.turn (record { opened = opened; kept = kept })).kept
   calls options false old new Flush replies opened none run kept = none_some _ none
-  calls options true old new ResumeStep replies opened none run kept = (resumed old new run.drafts None run.step run.turn (record { opened = opened; kept = kept })).kept
+  calls options true old new ResumeStep replies opened none run kept = (resumed old.state new.state run.drafts old.jobs.resume run.step run.turn.turn (record { opened = opened; kept = kept })).kept
   calls options false old new ResumeStep replies opened none run kept = none_some _ none
-  calls options true old new Resume replies opened none run kept = keep old new (Starting run.answer) opened run.turn kept
+  calls options true old new Resume replies opened none run kept = keep old.state new.state (Starting run.answer) opened run.turn.turn kept
   calls options false old new Resume replies opened none run kept = none_some _ none
-  calls options true old new (Scan from to) replies opened none run kept = keep old new (Scanning from to run.answer) opened run.turn kept
+  calls options true old new Close replies opened none run kept =
+      keep run.mid new.state Finishing (ap (λ (s : State). is_open s.mode.phase) run.closes.1) run.finishes (keep old.state run.mid (ShuttingDown run.tickets) opened run.closes kept)
+  calls options false old new Close replies opened none run kept = none_some _ none
+  calls options true old new (Scan from to) replies opened none run kept = keep old.state new.state (Scanning from to run.answer) opened run.turn.turn kept
   calls options false old new (Scan from to) replies opened none run kept = none_some _ none
-  calls options true old new (Get key) replies opened none run kept = keep old new (Getting key run.answer) opened run.turn kept
+  calls options true old new (Get key) replies opened none run kept = keep old.state new.state (Getting key run.answer) opened run.turn.turn kept
   calls options false old new (Get key) replies opened none run kept = none_some _ none
   calls options true old new (Drain moves) replies opened none run kept = drained moves old new replies run (record { opened = opened; kept = kept })
   calls options false old new (Drain moves) replies opened none run kept = none_some _ none
-  calls options true old new Error replies opened none run kept = keep old new (TellingError run.standing) opened run.turn kept
+  calls options true old new Error replies opened none run kept = keep old.state new.state (TellingError run.standing) opened run.turn.turn kept
   calls options false old new Error replies opened none run kept = none_some _ none
-  calls options true old new Levels replies opened none run kept = keep old new (TellingLevels run.view) opened run.turn kept
+  calls options true old new Levels replies opened none run kept = keep old.state new.state (TellingLevels run.view) opened run.turn.turn kept
   calls options false old new Levels replies opened none run kept = none_some _ none
-  calls options b old new Files replies opened none run kept = keep old new (Listing run.answer) tt run.turn kept
-  calls options b old new (Fail call fault skip times keep_) replies opened none run kept = keep old new (Arranging (rule.Fail call fault skip times keep_) run.answer) tt run.turn kept
-  calls options b old new (Capacity bytes) replies opened none run kept = keep old new (Arranging (rule.Capacity bytes) run.answer) tt run.turn kept
+  calls options b old new Files replies opened none run kept = keep old.state new.state (Listing run.answer) tt run.turn.turn kept
+  calls options b old new (Fail call fault skip times keep_) replies opened none run kept = keep old.state new.state (Arranging (rule.Fail call fault skip times keep_) run.answer) tt run.turn.turn kept
+  calls options b old new (Capacity bytes) replies opened none run kept = keep old.state new.state (Arranging (rule.Capacity bytes) run.answer) tt run.turn.turn kept
   calls options b old new (Crash dirops keep_ garbage seed) replies opened none run kept =
-      crashed old.device.simulated old new (record { dirops = dirops; keep = keep_; garbage = garbage; seed = seed }) replies run kept
+      crashed old.state.device.simulated old new (record { dirops = dirops; keep = keep_; garbage = garbage; seed = seed }) replies run kept
   calls options b old new command replies opened none run kept = absurd run
 
-  rests_or_calls : (options : Options) (r : Option Reply) (old new : State) (command : Command) (replies : List Reply) → rest_reply (is_open old.mode.phase) command ≡ r
-      → RestsOrCalls options r old command replies new → C old → C new
-  rests_or_calls options None old new command replies is run kept = calls options (is_open old.mode.phase) old new command replies refl is run kept
+  rests_or_calls : (options : Options) (r : Option Reply) (old new : Driven) (command : Command) (replies : List Reply) → rest_reply (is_open old.state.mode.phase) command ≡ r
+      → RestsOrCalls options r old command replies new → C old.state → C new.state
+  rests_or_calls options None old new command replies is run kept = calls options (is_open old.state.mode.phase) old new command replies refl is run kept
   rests_or_calls options (Some reply) old new command replies is rests kept = rw rests.same kept
 
-  on_store : (options : Options) (old new : State) (command : Command) (replies : List Reply) → CarriesOnStore options old command replies new → C old → C new
-  on_store options old new command replies run kept = rests_or_calls options (rest_reply (is_open old.mode.phase) command) old new command replies refl run kept
+  on_store : (options : Options) (old new : Driven) (command : Command) (replies : List Reply) → CarriesOnStore options old command replies new → C old.state → C new.state
+  on_store options old new command replies run kept = rests_or_calls options (rest_reply (is_open old.state.mode.phase) command) old new command replies refl run kept
 
-  partly : (options : Options) (b : Bool) (old new : State) (command : Command) → is_open old.mode.phase ≡ b → rest_reply b command ≡ None → CallsPartly options old command new → C old → C new
+  partly : (options : Options) (b : Bool) (old new : Driven) (command : Command) → is_open old.state.mode.phase ≡ b → rest_reply b command ≡ None → CallsPartly options old command new → C old.state → C new.state
   partly options true old new Open opened none turn kept = none_some _ none
-  partly options false old new Open opened none turn kept = keep old new (Opening options (Err refusal.OutOfMemory)) opened turn kept
+  partly options false old new Open opened none turn kept = keep old.state new.state (Opening options (Err refusal.OutOfMemory)) opened turn.turn kept
   partly options true old new (Put key value sync) opened none cut kept = put_cut old new (put_batch key value sync) cut (record { opened = opened; kept = kept })
   partly options false old new (Put key value sync) opened none cut kept = none_some _ none
   partly options true old new (Del key sync) opened none cut kept = put_cut old new (del_batch key sync) cut (record { opened = opened; kept = kept })
   partly options false old new (Del key sync) opened none cut kept = none_some _ none
-  partly options true old new (QueuePut client key value sync) opened none turn kept = (admitted old new (put_batch key value sync) admit.OutOfMemory turn (record { opened = opened; kept = kept })).kept
+  partly options true old new (QueuePut client key value sync) opened none turn kept = (admitted old.state new.state (put_batch key value sync) admit.OutOfMemory turn.turn (record { opened = opened; kept = kept })).kept
   partly options false old new (QueuePut client key value sync) opened none turn kept = none_some _ none
-  partly options true old new (QueueDel client key sync) opened none turn kept = (admitted old new (del_batch key sync) admit.OutOfMemory turn (record { opened = opened; kept = kept })).kept
+  partly options true old new (QueueDel client key sync) opened none turn kept = (admitted old.state new.state (del_batch key sync) admit.OutOfMemory turn.turn (record { opened = opened; kept = kept })).kept
   partly options false old new (QueueDel client key sync) opened none turn kept = none_some _ none
-  partly options true old new Write opened none turn kept = (written old new None step.OutOfMemory turn (record { opened = opened; kept = kept })).kept
+  partly options true old new Write opened none turn kept = (written old.state new.state old.jobs.write step.OutOfMemory turn.turn (record { opened = opened; kept = kept })).kept
   partly options false old new Write opened none turn kept = none_some _ none
-  partly options true old new Flush opened none cut kept = (flushed old new cut.0 None job_step.OutOfMemory cut.1 (record { opened = opened; kept = kept })).kept
+  partly options true old new Flush opened none cut kept = (flushed old.state new.state cut.0 old.jobs.flush job_step.OutOfMemory cut.1.turn (record { opened = opened; kept = kept })).kept
   partly options false old new Flush opened none cut kept = none_some _ none
-  partly options true old new ResumeStep opened none cut kept = (resumed old new cut.0 None boot_step.OutOfMemory cut.1 (record { opened = opened; kept = kept })).kept
+  partly options true old new ResumeStep opened none cut kept = (resumed old.state new.state cut.0 old.jobs.resume boot_step.OutOfMemory cut.1.turn (record { opened = opened; kept = kept })).kept
   partly options false old new ResumeStep opened none cut kept = none_some _ none
-  partly options true old new (Scan from to) opened none turn kept = keep old new (Scanning from to scanned.OutOfMemory) opened turn kept
+  partly options true old new (Scan from to) opened none turn kept = keep old.state new.state (Scanning from to scanned.OutOfMemory) opened turn.turn kept
   partly options false old new (Scan from to) opened none turn kept = none_some _ none
-  partly options true old new (Get key) opened none turn kept = keep old new (Getting key got.OutOfMemory) opened turn kept
+  partly options true old new (Get key) opened none turn kept = keep old.state new.state (Getting key got.OutOfMemory) opened turn.turn kept
   partly options false old new (Get key) opened none turn kept = none_some _ none
   partly options true old new (Drain moves) opened none cut kept = drain_cut moves old new cut (record { opened = opened; kept = kept })
   partly options false old new (Drain moves) opened none cut kept = none_some _ none
-  partly options b old new Files opened none turn kept = keep old new (Listing (Err disk.OutOfMemory)) tt turn kept
-  partly options b old new (Fail call fault skip times keep_) opened none cut kept = keep old new (Arranging (rule.Fail call fault skip times keep_) (Err cut.0)) tt cut.1 kept
-  partly options b old new (Capacity bytes) opened none cut kept = keep old new (Arranging (rule.Capacity bytes) (Err cut.0)) tt cut.1 kept
+  partly options b old new Files opened none turn kept = keep old.state new.state (Listing (Err disk.OutOfMemory)) tt turn.turn kept
+  partly options b old new (Fail call fault skip times keep_) opened none cut kept = keep old.state new.state (Arranging (rule.Fail call fault skip times keep_) (Err cut.0)) tt cut.1.turn kept
+  partly options b old new (Capacity bytes) opened none cut kept = keep old.state new.state (Arranging (rule.Capacity bytes) (Err cut.0)) tt cut.1.turn kept
   partly options b old new command opened none cut kept = absurd cut
 
-  store_cut : (options : Options) (old new : State) (command : Command) → StoreCutShort options old command new → C old → C new
+  store_cut : (options : Options) (old new : Driven) (command : Command) → StoreCutShort options old command new → C old.state → C new.state
   store_cut options old new command (inl same) kept = rw same kept
   store_cut options old new command (inr (inl carries)) kept = on_store options old new command carries.0 carries.1 kept
-  store_cut options old new command (inr (inr cut)) kept = partly options (is_open old.mode.phase) old new command refl cut.0 cut.1 kept
+  store_cut options old new command (inr (inr cut)) kept = partly options (is_open old.state.mode.phase) old new command refl cut.0 cut.1 kept
 
   -- ---- commands of a session
 
@@ -234,10 +238,10 @@ module _ (C : State → Type 0) (keep : (old new : State) (event : Event) → Ma
   pub carried : (old new : Session) (command : Command) (replies : List Reply) → Carries old command replies new → C old.store → C new.store
   carried old new (SetOption name value) replies run kept = set (is_open old.store.mode.phase) old new name value replies run kept
   carried old new (Tick ticks) replies run kept = same_store old new (ap (λ (s : Session). s.store) run.passes) kept
-  carried old new command replies run kept = on_store old.options old.store new.store command replies run.carries kept
+  carried old new command replies run kept = on_store old.options (driven_in old) (driven_in new) command replies run.carries kept
 
   cut : (old new : Session) (command : Command) → CutShort old command new → C old.store → C new.store
-  cut old new command (inl short) kept = store_cut old.options old.store new.store command short.cut kept
+  cut old new command (inl short) kept = store_cut old.options (driven_in old) (driven_in new) command short.cut kept
   cut old new command (inr carries) kept = carried old new command carries.0 carries.1 kept
 
   pub run : (commands : List Command) (old new : Session) (replies : List Reply) → Run old commands replies new → C old.store → C new.store

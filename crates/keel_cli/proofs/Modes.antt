@@ -85,6 +85,7 @@ mode_written s step.OutOfMemory = refl
 pub mode_admitted : (s : State) (batch : Batch) (answer : Admit) → (admit_after s batch answer).mode ≡ s.mode
 mode_admitted s batch (admit.Queued ticket) = refl
 mode_admitted s batch (admit.BadSize part size) = refl
+mode_admitted s batch admit.Closing = refl
 mode_admitted s batch admit.Booting = refl
 mode_admitted s batch (admit.Stopped failure) = refl
 mode_admitted s batch (admit.Spent counter) = refl

@@ -1,6 +1,6 @@
 -- A put that settles: it is the last of the log, or it is gone. And a ticket that wasn't given is nobody's.
 use Rattle.std.specs.Prelude.{is_some}
-use Rattle.std.proofs.Common.{length, ◌≡◌, ◌∙◌, inl, inr, ℕ, ◌==◌, not, Bool, true, false, if◌then◌else◌, Option, None, Some, List, [], ◌∷◌, ◌++◌, unwrap_or, refl, sym, ap, subst, arith}
+use Rattle.std.proofs.Common.{length, ◌≡◌, ◌∙◌, inl, inr, ℕ, ◌==◌, not, Bool, true, false, if◌then◌else◌, Option, None, Some, List, [], ◌∷◌, ◌++◌, unwrap_or, option_map, refl, sym, ap, subst, arith}
 use Rattle.keel_base.specs.Points.{fold_batches}
 use Rattle.keel_base.specs.Keys.{key_eq}
 use Rattle.keel_base.specs.declared.failure.Failure.{Failure}
@@ -11,12 +11,12 @@ use Rattle.keel_disk.specs.State.{State as Disk}
 use Rattle.keel_disk.specs.Told.{Told}
 use Rattle.keel_flush.specs.Plans.{Job as FlushJob}
 use Rattle.keel_group.specs.Queue.{Ticketed, tickets_of}
-use Rattle.keel_machine.proofs.FirstTests.{none_first, none_of, none_mapped, none_when}
+use Rattle.keel_machine.proofs.FirstTests.{none_first, none_later, none_of, none_mapped, none_when}
 use Rattle.keel_machine.specs.Admission.{outcome_kept, is_on_its_way, outcome_of, stopping, ops_of, batches_of_group}
-use Rattle.keel_machine.specs.States.{State, Story, Footing, Known, Unknown, Phase, Shut, Booting, Open, Segment, SegmentLog, Group, is_open, is_left}
-use Rattle.keel_machine.specs.Tests.{first_some}
+use Rattle.keel_machine.specs.States.{State, Story, Footing, Known, Unknown, Phase, Shut, Booting, Open, Closing, Segment, SegmentLog, Group, is_open, is_left}
+use Rattle.keel_machine.specs.Tests.{first_some, differing}
 use Rattle.keel_machine.specs.Turns.{Writing as Makes, TakingOutcome, after}
-use Rattle.keel_machine.specs.Writing.{is_nobody_waiting, ready, started, started_or, rests_of, rests_before_group, turned_away, write_rest}
+use Rattle.keel_machine.specs.Writing.{cancelled, is_nobody_waiting, ready, started, started_or, rests_of, rests_before_group, turned_away, write_rest}
 use Rattle.keel_machine.specs.WritingAfter.{WriteAnswers, call_done, call_failed, queue_turned, write_after}
 use Rattle.keel_machine.specs.declared.answers.Outcome.{Outcome}
 use Rattle.keel_machine.specs.declared.answers.Outcome.TheVariants as outcome
@@ -25,6 +25,7 @@ use Rattle.keel_machine.specs.declared.steps.WriteStep.TheVariants as step
 use Rattle.keel_manifest.specs.State.{ManifestState}
 use Rattle.keel_recovery.specs.Machine.{IsCovered, IsCoveredBy, KeptBy, HoldsBy, TurnKeeps}
 use Rattle.keel_recovery.specs.Waiting.{ops_waiting}
+use Rattle.keel_cli.specs.Jobs.{Driven}
 use Rattle.keel_cli.specs.Puts.{Waits}
 use Rattle.keel_cli.specs.ReadClaim.{Acked}
 use Rattle.keel_cli.proofs.Flooring.{was_known}
@@ -46,10 +47,10 @@ none_by (Some log) state levels story immutable batches waiting None (Some group
 none_by (Some log) state levels story immutable batches waiting (Some failure) running next_file in_tables flush manifest none no_group h = cc
 
 -- somebody waits where a group is to be formed
-nobody : (s : State) → write_rest s None ≡ None → s.jobs.write.running ≡ None → s.writing.waiting ≡ [] → ⊥
-nobody s rest no_group none_waits =
+nobody : (s : State) (held : Option ℕ) → write_rest s held ≡ None → s.jobs.write.running ≡ None → s.writing.waiting ≡ [] → ⊥
+nobody s held rest no_group none_waits =
     let here = first_some (rests_of s s.jobs.write.running) in
-    let rests : first_some (rests_of s s.jobs.write.running) ≡ None = none_first here [] rest in
+    let rests : first_some (rests_of s s.jobs.write.running) ≡ None = none_first here [] (none_later (option_map (cancelled s) (differing held s.jobs.write.number)) (here ∷ []) rest) in
     let before : first_some (rests_before_group s) ≡ None = subst (λ (r : Option Group). first_some (rests_of s r) ≡ None) no_group rests in
     let idle : WriteStep = step.Idle in
     let somebody : is_nobody_waiting s ≡ false = none_when (is_nobody_waiting s) idle (none_of (rests_before_group s) before).0 in
@@ -58,32 +59,33 @@ nobody s rest no_group none_waits =
     never : true ≡ false → ⊥
     never e = cc
 
-none_kept : (phase : Phase) (b : Bool) (state : Disk) (s : State) → is_open phase ≡ true → write_rest s None ≡ None → stopping s ≡ None → s.jobs.write.running ≡ None → KeptBy phase b state s → s.story.limbo ≡ []
-none_kept Shut b state s opened rest none no_group h = cc
-none_kept Booting b state s opened rest none no_group h = absurd (nobody s rest no_group h.none_waits)
-none_kept Open b state s opened rest none no_group (inr h) = absurd (never (sym (ap (λ (o : Option Failure). is_some o) none) ∙ h.stopped))
+none_kept : (phase : Phase) (b : Bool) (state : Disk) (s : State) (held : Option ℕ) → is_open phase ≡ true → write_rest s held ≡ None → stopping s ≡ None → s.jobs.write.running ≡ None → KeptBy phase b state s → s.story.limbo ≡ []
+none_kept Shut b state s held opened rest none no_group h = cc
+none_kept Booting b state s held opened rest none no_group h = absurd (nobody s held rest no_group h.none_waits)
+none_kept Closing b state s held opened rest none no_group h = absurd (nobody s held rest no_group h.none_waits)
+none_kept Open b state s held opened rest none no_group (inr h) = absurd (never (sym (ap (λ (o : Option Failure). is_some o) none) ∙ h.stopped))
   where
     never : false ≡ true → ⊥
     never e = cc
-none_kept Open b state s opened rest none no_group (inl h) =
+none_kept Open b state s held opened rest none no_group (inl h) =
     none_by s.segments.active.log state s.levels s.story s.segments.immutable s.segments.active.batches s.writing.waiting (stopping s) s.jobs.write.running s.numbers.next_file s.numbers.in_tables
     s.jobs.flush.running s.numbers.manifest none no_group h.stored
 
-none_covered : (footing : Footing) (told : Option Told) (s : State) → footing ≡ Known → is_open s.mode.phase ≡ true → stopping s ≡ None → s.jobs.write.running ≡ None → write_rest s None ≡ None
+none_covered : (footing : Footing) (told : Option Told) (s : State) (held : Option ℕ) → footing ≡ Known → is_open s.mode.phase ≡ true → stopping s ≡ None → s.jobs.write.running ≡ None → write_rest s held ≡ None
     → IsCoveredBy footing s.mode told s → s.story.limbo ≡ []
-none_covered Known (Some told) s known opened none no_group rest h = none_kept s.mode.phase (is_left s.mode.left) told.state s opened rest none no_group h
-none_covered Known None s known opened none no_group rest h = absurd h
-none_covered Unknown told s known opened none no_group rest h = cc
+none_covered Known (Some told) s held known opened none no_group rest h = none_kept s.mode.phase (is_left s.mode.left) told.state s held opened rest none no_group h
+none_covered Known None s held known opened none no_group rest h = absurd h
+none_covered Unknown told s held known opened none no_group rest h = cc
 
-none_stops : (s : State) → write_rest s None ≡ None → s.jobs.write.running ≡ None → stopping s ≡ None
-none_stops s none no_group =
+none_stops : (s : State) (held : Option ℕ) → write_rest s held ≡ None → s.jobs.write.running ≡ None → stopping s ≡ None
+none_stops s held none no_group =
     let here = first_some (rests_of s s.jobs.write.running) in
-    let rests : first_some (rests_of s s.jobs.write.running) ≡ None = none_first here [] none in
+    let rests : first_some (rests_of s s.jobs.write.running) ≡ None = none_first here [] (none_later (option_map (cancelled s) (differing held s.jobs.write.number)) (here ∷ []) none) in
     let before : first_some (rests_before_group s) ≡ None = subst (λ (r : Option Group). first_some (rests_of s r) ≡ None) no_group rests in
     none_mapped (turned_away s) (stopping s) (none_of (rests_before_group s) before).1.0
 
-pub no_limbo : (s : State) → s.footing ≡ Known → is_open s.mode.phase ≡ true → IsCovered s → write_rest s None ≡ None → s.jobs.write.running ≡ None → s.story.limbo ≡ []
-no_limbo s known opened covered none no_group = none_covered s.footing s.device.told s known opened (none_stops s none no_group) no_group none covered
+pub no_limbo : (s : State) (held : Option ℕ) → s.footing ≡ Known → is_open s.mode.phase ≡ true → IsCovered s → write_rest s held ≡ None → s.jobs.write.running ≡ None → s.story.limbo ≡ []
+no_limbo s held known opened covered none no_group = none_covered s.footing s.device.told s held known opened (none_stops s held none no_group) no_group none covered
 
 -- ---- what is told of a ticket
 
@@ -178,17 +180,17 @@ module _ (ticket : ℕ) (own : List Op) (key : List ℕ) (last : Option Acked) w
     }))
     own_turn failure (inr (inr over)) = absurd (not_over s none over)
 
-    own_written : (made : WriteStep) (device : Seen) → WriteAnswers s None made device → (write_rest s None ≡ None → s.jobs.write.running ≡ None → s.story.limbo ≡ [])
+    own_written : (held : Option ℕ) (made : WriteStep) (device : Seen) → WriteAnswers s held made device → (write_rest s held ≡ None → s.jobs.write.running ≡ None → s.story.limbo ≡ [])
         → IsOwn ticket own key last s → IsOwn ticket own key last (write_after s made)
-    own_written (step.Moved job call) device a limbo owns = own_called (limbo a.made.makes.no_rest) owns
-    own_written (step.Done job seq batches) device a limbo owns = own_called (limbo a.made.makes.no_rest) owns
-    own_written (step.Failed failure) device a limbo owns = own_failed failure (limbo a.made.makes.no_rest) owns
-    own_written (step.Turned batches failure) device a limbo owns = own_turn failure owns
-    own_written step.Idle device a limbo owns = owns
-    own_written (step.Full active immutables) device a limbo owns = owns
-    own_written (step.Spent counter) device a limbo owns = owns
-    own_written (step.Cancelled job current) device a limbo owns = owns
-    own_written step.OutOfMemory device a limbo owns = owns
+    own_written held (step.Moved job call) device a limbo owns = own_called (limbo a.made.makes.no_rest) owns
+    own_written held (step.Done job seq batches) device a limbo owns = own_called (limbo a.made.makes.no_rest) owns
+    own_written held (step.Failed failure) device a limbo owns = own_failed failure (limbo a.made.makes.no_rest) owns
+    own_written held (step.Turned batches failure) device a limbo owns = own_turn failure owns
+    own_written held step.Idle device a limbo owns = owns
+    own_written held (step.Full active immutables) device a limbo owns = owns
+    own_written held (step.Spent counter) device a limbo owns = owns
+    own_written held (step.Cancelled job current) device a limbo owns = owns
+    own_written held step.OutOfMemory device a limbo owns = owns
 
   means_seen : (out : Outcome) (s : State) (device : Seen) → Means own key last out s → Means own key last out (record s { device = device })
   means_seen outcome.Waiting s device means = absurd means
@@ -202,6 +204,7 @@ module _ (ticket : ℕ) (own : List Op) (key : List ℕ) (last : Option Acked) w
   }
   means_seen (outcome.Failed failure) s device means = tt
   means_seen (outcome.Turned failure) s device means = last_seen key last s device means
+  means_seen outcome.Closed s device means = absurd means
   means_seen outcome.Unknown s device means = absurd means
 
   own_seen : (s : State) (device : Seen) → IsOwn ticket own key last s → IsOwn ticket own key last (record s { device = device })
@@ -237,21 +240,22 @@ module _ (ticket : ℕ) (own : List Op) (key : List ℕ) (last : Option Acked) w
 
   module _ (keeps : TurnKeeps) where
     -- a batch that is on its way stays so while write steps are made, or has an outcome
-    pub own_waits : (old new : State) (steps : List WriteStep) → Waits old ticket steps new → IsKept IsCovered keeps old → new.footing ≡ Known → IsOwn ticket own key last old → IsOwn ticket own key last new
+    pub own_waits : (old new : Driven) (steps : List WriteStep) → Waits old ticket steps new → IsKept IsCovered keeps old.state → new.state.footing ≡ Known → IsOwn ticket own key last old.state → IsOwn ticket own key last new.state
     own_waits old new [] same covered known owns = rw same owns
     own_waits old new (made ∷ earlier) waits covered known owns =
-        let mid = waits.0 in
+        let mid = waits.0.state in
+        let held = waits.0.jobs.write in
         let same = waits.1 in
-        let known_same : same.footing ≡ Known = was_known same new (Makes None made) waits.4 known in
+        let known_same : same.footing ≡ Known = was_known same new.state (Makes held made) waits.4.turn known in
         let known_mid : mid.footing ≡ Known = was_known mid same (TakingOutcome ticket outcome.Waiting) waits.3 known_same in
-        let before = own_waits old mid earlier waits.2 covered known_mid owns in
+        let before = own_waits old waits.0 earlier waits.2 covered known_mid owns in
         let none : outcome_kept ticket mid.writing.outcomes ≡ None = own_none mid before waits.3.0.0 in
-        let covered_same = taken IsCovered keeps mid same ticket outcome.Waiting waits.3 (waited IsCovered keeps old mid ticket earlier waits.2 covered) in
+        let covered_same = taken IsCovered keeps mid same ticket outcome.Waiting waits.3 (waited IsCovered keeps old waits.0 ticket earlier waits.2 covered) in
         let between : IsOwn ticket own key last same = subst (IsOwn ticket own key last) (sym waits.3.1) (own_taken mid same.device none before) in
         let none_same : outcome_kept ticket same.writing.outcomes ≡ None =
         subst (λ (s : State). outcome_kept ticket s.writing.outcomes ≡ None) (sym waits.3.1) (none_filter ticket (λ entry. not (entry.0 == ticket)) mid.writing.outcomes none) in
-        let behind = own_written same none_same made new.device waits.4.0 (no_limbo same known_same covered_same.opened covered_same.kept) between in
-        subst (IsOwn ticket own key last) (sym waits.4.1) (own_seen (write_after same made) new.device behind)
+        let behind = own_written same none_same held made new.state.device waits.4.turn.0 (no_limbo same held known_same covered_same.opened covered_same.kept) between in
+        subst (IsOwn ticket own key last) (sym waits.4.turn.1) (own_seen (write_after same made) new.state.device behind)
 
 -- the last of the log is the last write of its key
 pub end_last : (op : Op) (key : List ℕ) (seq : ℕ) (value : Option (List ℕ)) (s : State) → key_eq (key_of op) key ≡ true → value_of op ≡ value → IsEnd (op ∷ []) seq s

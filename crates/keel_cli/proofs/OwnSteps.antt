@@ -35,6 +35,7 @@ Means own key last (outcome.Done seq) s = IsEnd own seq s
 Means own key last (outcome.Failed failure) s = Unit {0}
 Means own key last (outcome.Turned failure) s = HasLast key last s
 Means own key last outcome.Unknown s = ⊥
+Means own key last outcome.Closed s = ⊥
 
 -- The ticket has no outcome, and is none of the group in flight, and this holds of those that wait.
 pub record IsApart (ticket : ℕ) (W : List Ticketed → Type 0) (s : State) : Type 0 where

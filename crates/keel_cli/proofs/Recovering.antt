@@ -1,5 +1,5 @@
 -- What the device of a run's last state stands for.
-use Rattle.std.proofs.Common.{◌≡◌, ℕ, Option, None, List, refl, sym, subst, inl, ⊎_elim, arith}
+use Rattle.std.proofs.Common.{◌≡◌, ℕ, Option, List, refl, sym, subst, inl, ⊎_elim, arith}
 use Rattle.keel_disk.specs.Told.{Told}
 use Rattle.keel_disk.specs.Seen.{Seen}
 use Rattle.keel_machine.specs.States.{State, Footing, Known, Unknown}
@@ -66,9 +66,9 @@ recovers stop footing handed_in first last held holds lines may begins ends =
 pub safe_inside : (stop : Option StopPlace) (footing : Footing) (handed_in : Seen) (first last : Session) (held holds : Option (List ℕ)) (lines : List (List ℕ))
     → MayBegin footing handed_in.told → Begins footing handed_in first → (ends : LinesEnd stop first held lines last holds) → EachEnd TurnIsSafe stop first held lines last holds ends
 safe_inside stop footing handed_in first last held holds lines may begins ends =
-    each_end IsCovered turns_keep TurnIsSafe (λ old new made opened turn covered. steps_are_safe old new None made opened turn covered)
-    (λ old new drafts made opened turn covered. resumes_are_safe boots_keep old new drafts None made opened turn covered)
-    (λ old new draft made turn covered. flushes_are_safe old new draft None made turn covered)
+    each_end IsCovered turns_keep TurnIsSafe (λ old new held made opened turn covered. steps_are_safe old new held made opened turn covered)
+    (λ old new drafts held made opened turn covered. resumes_are_safe boots_keep old new drafts held made opened turn covered)
+    (λ old new draft held made turn covered. flushes_are_safe old new draft held made turn covered)
     stop first last held holds lines ends (first_covered footing handed_in first begins may)
 
 -- no opening is behind a synced write that was acknowledged

@@ -36,7 +36,7 @@ use Rattle.keel_machine.specs.Opening.{Found}
 use Rattle.keel_machine.specs.Reads.{WhereKnown, contents, in_range, IsRowOf, AreRowsOf}
 use Rattle.keel_machine.specs.Resuming.{resume_after}
 use Rattle.keel_machine.specs.States.{State, Footing, Known, Unknown, Mode, Leaving, Nothing, Crashed, Left, is_open}
-use Rattle.keel_machine.specs.Turns.{Event, Opening, Admitting, Writing as Makes, Resuming, Flushing, TakingOutcome, Getting, Scanning, Crashing, Turn, after, Starting}
+use Rattle.keel_machine.specs.Turns.{Event, Opening, Admitting, Writing as Makes, Resuming, Flushing, TakingOutcome, Getting, Scanning, Crashing, Turn, after, Starting, ShuttingDown, Finishing}
 use Rattle.keel_machine.specs.WritingAfter.{write_after}
 use Rattle.keel_machine.specs.declared.answers.Start.{Start}
 use Rattle.keel_machine.specs.Starting.{start_after}
@@ -44,7 +44,7 @@ use Rattle.keel_cli.proofs.Starts.{open_started}
 use Rattle.keel_recovery.specs.Machine.{MayCall, IsCovered, TurnKeeps}
 use Rattle.keel_draft.specs.Drafts.{Draft}
 use Rattle.keel_script.specs.declared.command.Command.{Command}
-use Rattle.keel_script.specs.declared.command.Command.TheVariants.{SetOption, Open, Put, Del, QueuePut, QueueDel, Write, Flush, Resume, ResumeStep, Drain, Tick, Get, Scan, Error, Files, Levels, Fail, Capacity, Crash}
+use Rattle.keel_script.specs.declared.command.Command.TheVariants.{SetOption, Open, Put, Del, QueuePut, QueueDel, Write, Flush, Resume, ResumeStep, Drain, Tick, Get, Scan, Error, Files, Levels, Fail, Capacity, Crash, Close}
 use Rattle.keel_script.specs.declared.reply.Reply.{Reply}
 use Rattle.keel_script.specs.declared.reply.Reply.TheVariants as reply
 use Rattle.keel_cli.specs.declared.lines.StopPlace.{StopPlace}
@@ -54,9 +54,10 @@ use Rattle.keel_cli.specs.LineEnds.{LinesEnd}
 use Rattle.keel_cli.specs.Puts.{put_batch, del_batch, refusal_replies, outcome_replies, Waits, PutSettled, PutRun, QueueRun}
 use Rattle.keel_cli.specs.ReadClaim.{Acked, behind_write, behind_queued, found_to, behind_opening, last_write, Shows, RowsShow, HasRow, HasValue, ShowsRows, is_within, IsShown, AreShown, ReadsRight}
 use Rattle.keel_cli.specs.Runs.{opening_replies, fault_replies, reading_replies, row_replies, scan_replies, rest_reply, CrashRun, RestsOrCalls, SetRun, Carries, Run}
-use Rattle.keel_cli.specs.Sessions.{Session, Begins, unopened}
+use Rattle.keel_cli.specs.Jobs.{Driven, driven}
+use Rattle.keel_cli.specs.Sessions.{Session, Begins, driven_in, unopened}
 use Rattle.keel_cli.proofs.Flooring.{was_known}
-use Rattle.keel_cli.proofs.Following.{HasLast, HeldBy, Holds, holds_open, open_holds, holds_none, last_seen, last_written, last_queued, last_resumed, last_begun, last_flushed, crashed_holds, opens}
+use Rattle.keel_cli.proofs.Following.{HasLast, HeldBy, Holds, holds_open, open_holds, holds_none, last_seen, last_written, last_queued, last_resumed, last_begun, last_flushed, crashed_holds, opens, closed_holds}
 use Rattle.keel_cli.proofs.Keeping.{IsKept, admitted, waited, carried, run, stopped}
 use Rattle.keel_cli.proofs.Ledger.{key_of, value_of, FreeOf, lasts_end}
 use Rattle.keel_cli.proofs.Beside.{open_flushed}
@@ -65,6 +66,7 @@ use Rattle.keel_cli.proofs.Owning.{OwnLast, own_joined}
 use Rattle.keel_cli.proofs.OwnSteps.{IsOwn}
 use Rattle.keel_cli.proofs.OwnPut.{own_waits, own_done, own_turned, end_last}
 use Rattle.keel_cli.proofs.Unused.{AreUnused, keep_unused}
+use Rattle.keel_cli.specs.Closes.{CloseRun}
 
 -- a store that is open, and that has the last write of the key where it is known
 pub record IsHeld (key : List ℕ) (last : Option Acked) (s : State) : Type 0 where
@@ -119,6 +121,7 @@ module _ (key : List ℕ) (last : Option Acked) where
   has_admitted : (s : State) (batch : Batch) (answer : Admit) → FreeOf key last batch.ops → HasLast key last s → HasLast key last (admit_after s batch answer)
   has_admitted s batch (admit.Queued ticket) free has = last_queued key last s batch free has
   has_admitted s batch (admit.BadSize part size) free has = has
+  has_admitted s batch admit.Closing free has = has
   has_admitted s batch admit.Booting free has = has
   has_admitted s batch (admit.Stopped failure) free has = has
   has_admitted s batch (admit.Spent counter) free has = has
@@ -138,6 +141,7 @@ module _ (key : List ℕ) (last : Option Acked) where
   refused_same : (s : State) (batch : Batch) (answer : Admit) (replies : List Reply) → refusal_replies answer ≡ Some replies → admit_after s batch answer ≡ s
   refused_same s batch (admit.Queued ticket) replies prints = cc
   refused_same s batch (admit.BadSize part size) replies prints = refl
+  refused_same s batch admit.Closing replies prints = refl
   refused_same s batch admit.Booting replies prints = refl
   refused_same s batch (admit.Stopped failure) replies prints = refl
   refused_same s batch (admit.Spent counter) replies prints = refl
@@ -164,42 +168,42 @@ module _ (key : List ℕ) (last : Option Acked) where
     has = λ known. subst (HasLast key last) (sym turn.1) (has_taken old ticket out new.device (is.has (was_known old new (TakingOutcome ticket out) turn known)));
   }
 
-  held_waits : (old new : State) (ticket : ℕ) (steps : List WriteStep) → Waits old ticket steps new → IsHeld key last old → IsHeld key last new
+  held_waits : (old new : Driven) (ticket : ℕ) (steps : List WriteStep) → Waits old ticket steps new → IsHeld key last old.state → IsHeld key last new.state
   held_waits old new ticket [] same is = rw same is
   held_waits old new ticket (made ∷ earlier) waits is =
-      held_written waits.1 new None made waits.4 (held_taken waits.0 waits.1 ticket outcome.Waiting waits.3 (held_waits old waits.0 ticket earlier waits.2 is))
+      held_written waits.1 new.state waits.0.jobs.write made waits.4.turn (held_taken waits.0.state waits.1 ticket outcome.Waiting waits.3 (held_waits old waits.0 ticket earlier waits.2 is))
 
   -- a put of another key
-  other_put : (old new : State) (batch : Batch) (replies : List Reply) → FreeOf key last batch.ops → PutRun old batch replies new → IsHeld key last old → IsHeld key last new
-  other_put old new batch replies free (inl refused) is = held_admitted old new batch refused.answer refused.turn free is
+  other_put : (old new : Driven) (batch : Batch) (replies : List Reply) → FreeOf key last batch.ops → PutRun old batch replies new → IsHeld key last old.state → IsHeld key last new.state
+  other_put old new batch replies free (inl refused) is = held_admitted old.state new.state batch refused.answer refused.turn.turn free is
   other_put old new batch replies free (inr (inl put)) is =
-      held_taken put.last new put.ticket put.outcome put.taken
-      (held_waits put.queues.mid put.last put.ticket put.steps put.queues.waits (held_admitted old put.queues.mid batch (admit.Queued put.ticket) put.queues.queued free is))
+      held_taken put.last.state new.state put.ticket put.outcome put.taken.turn
+      (held_waits (driven put.queues.mid old.jobs) put.last put.ticket put.steps put.queues.waits (held_admitted old.state put.queues.mid batch (admit.Queued put.ticket) put.queues.queued free is))
   other_put old new batch replies free (inr (inr waits)) is =
-      held_waits waits.queues.mid new waits.ticket (waits.step ∷ waits.steps) waits.queues.waits
-      (held_admitted old waits.queues.mid batch (admit.Queued waits.ticket) waits.queues.queued free is)
+      held_waits (driven waits.queues.mid old.jobs) new waits.ticket (waits.step ∷ waits.steps) waits.queues.waits
+      (held_admitted old.state waits.queues.mid batch (admit.Queued waits.ticket) waits.queues.queued free is)
 
-  other_queued : (old new : State) (batch : Batch) (replies : List Reply) → FreeOf key last batch.ops → QueueRun old batch replies new → IsHeld key last old → IsHeld key last new
-  other_queued old new batch replies free (inl refused) is = held_admitted old new batch refused.answer refused.turn free is
-  other_queued old new batch replies free (inr queues) is = held_admitted old new batch (admit.Queued queues.ticket) queues.turn free is
+  other_queued : (old new : Driven) (batch : Batch) (replies : List Reply) → FreeOf key last batch.ops → QueueRun old batch replies new → IsHeld key last old.state → IsHeld key last new.state
+  other_queued old new batch replies free (inl refused) is = held_admitted old.state new.state batch refused.answer refused.turn.turn free is
+  other_queued old new batch replies free (inr queues) is = held_admitted old.state new.state batch (admit.Queued queues.ticket) queues.turn.turn free is
 
   -- drains
-  held_boots : (old new : State) (moves : ℕ) → BootMoves old moves new → IsHeld key last old → IsHeld key last new
-  held_boots old new moves boot is = held_resumed old new boot.drafts None boot.step boot.turn is
+  held_boots : (old new : Driven) (moves : ℕ) → BootMoves old moves new → IsHeld key last old.state → IsHeld key last new.state
+  held_boots old new moves boot is = held_resumed old.state new.state boot.drafts old.jobs.resume boot.step boot.turn.turn is
 
-  held_wrote : (limit made : ℕ) (old : State) (moves : ℕ) (new : State) → Wrote limit made old moves new → IsHeld key last old → IsHeld key last new
+  held_wrote : (limit made : ℕ) (old : Driven) (moves : ℕ) (new : Driven) → Wrote limit made old moves new → IsHeld key last old.state → IsHeld key last new.state
   held_wrote limit made old moves new half is =
-      held_written half.mid new None half.write.step half.write.turn (held_boots old half.mid half.of_boot half.boot is)
+      held_written half.mid.state new.state half.mid.jobs.write half.write.step half.write.turn.turn (held_boots old half.mid half.of_boot half.boot is)
 
-  held_round : (limit made : ℕ) (old : State) (moves : ℕ) (new : State) → Round limit made old moves new → IsHeld key last old → IsHeld key last new
+  held_round : (limit made : ℕ) (old : Driven) (moves : ℕ) (new : Driven) → Round limit made old moves new → IsHeld key last old.state → IsHeld key last new.state
   held_round limit made old moves new round is =
-      held_flushed round.behind new round.flush.draft None round.flush.step round.flush.turn (held_wrote limit made old round.before round.behind round.wrote is)
+      held_flushed round.behind.state new.state round.flush.draft round.behind.jobs.flush round.flush.step round.flush.turn.turn (held_wrote limit made old round.before round.behind round.wrote is)
 
-  held_rounds : (limit : ℕ) (old : State) (rounds made : ℕ) (new : State) → Rounds limit old rounds made new → IsHeld key last old → IsHeld key last new
+  held_rounds : (limit : ℕ) (old : Driven) (rounds made : ℕ) (new : Driven) → Rounds limit old rounds made new → IsHeld key last old.state → IsHeld key last new.state
   held_rounds limit old zero made new same is = rw same.1 is
   held_rounds limit old (suc rounds) made new gone is = held_round limit gone.1 gone.0 gone.2 new gone.4 (held_rounds limit old rounds gone.1 gone.0 gone.3 is)
 
-  held_drained : (limit : ℕ) (old new : State) (replies : List Reply) → DrainRun limit old replies new → IsHeld key last old → IsHeld key last new
+  held_drained : (limit : ℕ) (old new : Driven) (replies : List Reply) → DrainRun limit old replies new → IsHeld key last old.state → IsHeld key last new.state
   held_drained limit old new replies (inl quiet) is =
       held_round limit quiet.made quiet.last 0 new quiet.round (held_rounds limit old quiet.begun.rounds quiet.made quiet.last quiet.begun.went is)
   held_drained limit old new replies (inr (inl more)) is =
@@ -229,9 +233,18 @@ module _ (key : List ℕ) (last : Option Acked) where
       let is : Holds key last (after old (Crashing pick None) new.device) = λ known. cc in
       subst (Holds key last) (sym turn.1) is
 
-  holds_crashed : (b : Bool) (old new : State) (pick : Pick) (replies : List Reply) → CrashRun b old pick replies new → Holds key last old → Holds key last new
-  holds_crashed true old new pick replies run holds = holds_crash old new pick run.0 run.1 holds
+  holds_crashed : (b : Bool) (old new : Driven) (pick : Pick) (replies : List Reply) → CrashRun b old pick replies new → Holds key last old.state → Holds key last new.state
+  holds_crashed true old new pick replies run holds = holds_crash old.state new.state pick run.0 run.1 holds
   holds_crashed false old new pick replies rests holds = rw rests.same holds
+
+  -- ---- a close
+
+  holds_closed : (old new : Driven) (replies : List Reply) → CloseRun old replies new → is_open old.state.mode.phase ≡ true → Holds key last old.state → Holds key last new.state
+  holds_closed old new replies run opened holds =
+      let closed : State = after old.state (ShuttingDown run.tickets) run.mid.device in
+      let next : State = after closed Finishing new.state.device in
+      let is : Holds key last next = λ known. closed_holds key last (holds_open key last old.state opened known holds).story in
+      subst (Holds key last) (sym (run.finishes.1 ∙ ap (λ (s : State). after s Finishing new.state.device) run.closes.1)) is
 
 pub same_replies : {A : Type 0} (a b : A) → Some a ≡ Some b → a ≡ b
 same_replies a b same = cc
@@ -247,6 +260,7 @@ module _ (key : List ℕ) (last : Option Acked) (value : Option (List ℕ)) wher
   refused_said P (admit.BadSize part.Key size) replies prints is = written_as P _ replies (same_replies _ _ prints) is
   refused_said P (admit.BadSize part.Value size) replies prints is = written_as P _ replies (same_replies _ _ prints) is
   refused_said P (admit.BadSize part.Batch size) replies prints is = cc
+  refused_said P admit.Closing replies prints is = written_as P _ replies (same_replies _ _ prints) is
   refused_said P admit.Booting replies prints is = written_as P _ replies (same_replies _ _ prints) is
   refused_said P (admit.Stopped failure) replies prints is = written_as P _ replies (same_replies _ _ prints) is
   refused_said P (admit.Spent counter) replies prints is = written_as P _ replies (same_replies _ _ prints) is
@@ -262,83 +276,84 @@ module _ (key : List ℕ) (last : Option Acked) (value : Option (List ℕ)) wher
   outcome_said P (outcome.Failed failure) replies prints done none turned = written_as P _ replies (same_replies _ _ prints) none
   outcome_said P (outcome.Turned failure) replies prints done none turned = written_as P _ replies (same_replies _ _ prints) (turned failure refl)
   outcome_said P outcome.Unknown replies prints done none turned = cc
+  outcome_said P outcome.Closed replies prints done none turned = cc
 
   module _ (keeps : TurnKeeps) (op : Op) (batch : Batch) (one : batch.ops ≡ op ∷ []) (same : key_eq (key_of op) key ≡ true) (is : value_of op ≡ value) where
-    own_put : (old new : State) (replies : List Reply) (put : PutSettled old batch replies new) → is_open old.mode.phase ≡ true → IsCovered old → AreUnused old → Holds key last old
-        → put.last.footing ≡ Known → IsOwn put.ticket (op ∷ []) key last put.last
+    own_put : (old new : Driven) (replies : List Reply) (put : PutSettled old batch replies new) → is_open old.state.mode.phase ≡ true → IsCovered old.state → AreUnused old.state → Holds key last old.state
+        → put.last.state.footing ≡ Known → IsOwn put.ticket (op ∷ []) key last put.last.state
     own_put old new replies put opened covered unused holds known =
         let mid = put.queues.mid in
-        let first : IsKept IsCovered keeps old = record { opened = opened; kept = covered } in
-        let joined : IsKept IsCovered keeps mid = admitted IsCovered keeps old mid batch (admit.Queued put.ticket) put.queues.queued first in
-        let known_mid : mid.footing ≡ Known = waits_known put.last mid put.ticket put.steps put.queues.waits known in
-        let known_old : old.footing ≡ Known = was_known old mid (Admitting batch (admit.Queued put.ticket)) put.queues.queued known_mid in
-        let has : HasLast key last old = holds_open key last old opened known_old holds in
-        let ticket_is : put.ticket ≡ old.writing.last_ticket + 1 = put.queues.queued.0.0.1 in
+        let first : IsKept IsCovered keeps old.state = record { opened = opened; kept = covered } in
+        let joined : IsKept IsCovered keeps mid = admitted IsCovered keeps old.state mid batch (admit.Queued put.ticket) put.queues.queued first in
+        let known_mid : mid.footing ≡ Known = waits_known put.last (driven mid old.jobs) put.ticket put.steps put.queues.waits known in
+        let known_old : old.state.footing ≡ Known = was_known old.state mid (Admitting batch (admit.Queued put.ticket)) put.queues.queued known_mid in
+        let has : HasLast key last old.state = holds_open key last old.state opened known_old holds in
+        let ticket_is : put.ticket ≡ old.state.writing.last_ticket + 1 = put.queues.queued.0.0.1 in
         let free = unused opened put.ticket (omega (arith, ticket_is)) in
-        let begins : IsOwn put.ticket (op ∷ []) key last (after old (Admitting batch (admit.Queued put.ticket)) mid.device) =
+        let begins : IsOwn put.ticket (op ∷ []) key last (after old.state (Admitting batch (admit.Queued put.ticket)) mid.device) =
         inl (
           record {
             none = free.none;
             owned =
-                subst (λ (t : ℕ). OwnLast put.ticket (op ∷ []) key last (old.writing.waiting ++ (record { ticket = t; batch = batch }) ∷ [])) ticket_is
-                (own_joined put.ticket (op ∷ []) key last batch old.writing.waiting free.owned has.waits one);
+                subst (λ (t : ℕ). OwnLast put.ticket (op ∷ []) key last (old.state.writing.waiting ++ (record { ticket = t; batch = batch }) ∷ [])) ticket_is
+                (own_joined put.ticket (op ∷ []) key last batch old.state.writing.waiting free.owned has.waits one);
             lacks = free.lacks;
           },
           record { logged = has.story.logged; limbo = has.story.limbo; group = has.story.group },
         ) in
-        own_waits put.ticket (op ∷ []) key last keeps mid put.last put.steps put.queues.waits joined known (subst (IsOwn put.ticket (op ∷ []) key last) (sym put.queues.queued.1) begins)
+        own_waits put.ticket (op ∷ []) key last keeps (driven mid old.jobs) put.last put.steps put.queues.waits joined known (subst (IsOwn put.ticket (op ∷ []) key last) (sym put.queues.queued.1) begins)
       where
-        waits_known : (new old : State) (ticket : ℕ) (steps : List WriteStep) → Waits old ticket steps new → new.footing ≡ Known → old.footing ≡ Known
-        waits_known new old ticket [] same known = ap (λ (s : State). s.footing) (sym same) ∙ known
+        waits_known : (new old : Driven) (ticket : ℕ) (steps : List WriteStep) → Waits old ticket steps new → new.state.footing ≡ Known → old.state.footing ≡ Known
+        waits_known new old ticket [] same known = ap (λ (s : Driven). s.state.footing) (sym same) ∙ known
         waits_known new old ticket (made ∷ earlier) waits known =
             waits_known waits.0 old ticket earlier waits.2
-            (was_known waits.0 waits.1 (TakingOutcome ticket outcome.Waiting) waits.3 (was_known waits.1 new (Makes None made) waits.4 known))
+            (was_known waits.0.state waits.1 (TakingOutcome ticket outcome.Waiting) waits.3 (was_known waits.1 new.state (Makes waits.0.jobs.write made) waits.4.turn known))
 
-    settled_holds : (old new : State) (replies : List Reply) (put : PutSettled old batch replies new) → is_open old.mode.phase ≡ true → IsCovered old → AreUnused old → Holds key last old
-        → Holds key (behind_write value last replies) new
+    settled_holds : (old new : Driven) (replies : List Reply) (put : PutSettled old batch replies new) → is_open old.state.mode.phase ≡ true → IsCovered old.state → AreUnused old.state → Holds key last old.state
+        → Holds key (behind_write value last replies) new.state
     settled_holds old new replies put opened covered unused holds =
-        let first : IsKept AreUnused keep_unused old = record { opened = opened; kept = unused } in
-        let joined = admitted AreUnused keep_unused old put.queues.mid batch (admit.Queued put.ticket) put.queues.queued first in
-        let behind = waited AreUnused keep_unused put.queues.mid put.last put.ticket put.steps put.queues.waits joined in
-        let opens_last : is_open put.last.mode.phase ≡ true = behind.opened in
-        let known_last : new.footing ≡ Known → put.last.footing ≡ Known = was_known put.last new (TakingOutcome put.ticket put.outcome) put.taken in
-        outcome_said (λ l. Holds key l new) put.outcome replies put.prints
+        let first : IsKept AreUnused keep_unused old.state = record { opened = opened; kept = unused } in
+        let joined = admitted AreUnused keep_unused old.state put.queues.mid batch (admit.Queued put.ticket) put.queues.queued first in
+        let behind = waited AreUnused keep_unused (driven put.queues.mid old.jobs) put.last put.ticket put.steps put.queues.waits joined in
+        let opens_last : is_open put.last.state.mode.phase ≡ true = behind.opened in
+        let known_last : new.state.footing ≡ Known → put.last.state.footing ≡ Known = was_known put.last.state new.state (TakingOutcome put.ticket put.outcome) put.taken.turn in
+        outcome_said (λ l. Holds key l new.state) put.outcome replies put.prints
         (λ seq done.
         let write : Option Acked = Some (record { number = seq; value = value }) in
-        let here : IsHeld key write put.last = record {
+        let here : IsHeld key write put.last.state = record {
           opened = opens_last;
           has = λ known.
-              end_last op key seq value put.last same is
-              (own_done put.ticket (op ∷ []) key last put.last seq (own_put old new replies put opened covered unused holds known) (sym put.taken.0.0 ∙ done));
+              end_last op key seq value put.last.state same is
+              (own_done put.ticket (op ∷ []) key last put.last.state seq (own_put old new replies put opened covered unused holds known) (sym put.taken.turn.0.0 ∙ done));
         } in
-        to_holds key write new (held_taken key write put.last new put.ticket put.outcome put.taken here))
-        (holds_none key new)
+        to_holds key write new.state (held_taken key write put.last.state new.state put.ticket put.outcome put.taken.turn here))
+        (holds_none key new.state)
         (λ failure turned.
-        let here : IsHeld key last put.last = record {
+        let here : IsHeld key last put.last.state = record {
           opened = opens_last;
-          has = λ known. own_turned put.ticket (op ∷ []) key last put.last failure (own_put old new replies put opened covered unused holds known) (sym put.taken.0.0 ∙ turned);
+          has = λ known. own_turned put.ticket (op ∷ []) key last put.last.state failure (own_put old new replies put opened covered unused holds known) (sym put.taken.turn.0.0 ∙ turned);
         } in
-        to_holds key last new (held_taken key last put.last new put.ticket put.outcome put.taken here))
+        to_holds key last new.state (held_taken key last put.last.state new.state put.ticket put.outcome put.taken.turn here))
 
-    own_put_holds : (old new : State) (replies : List Reply) → PutRun old batch replies new → is_open old.mode.phase ≡ true → IsCovered old → AreUnused old → Holds key last old
-        → Holds key (behind_write value last replies) new
+    own_put_holds : (old new : Driven) (replies : List Reply) → PutRun old batch replies new → is_open old.state.mode.phase ≡ true → IsCovered old.state → AreUnused old.state → Holds key last old.state
+        → Holds key (behind_write value last replies) new.state
     own_put_holds old new replies (inl refused) opened covered unused holds =
-        refused_said (λ l. Holds key l new) refused.answer replies refused.prints
-        (to_holds key last new (held_refused key last old new batch refused.answer replies refused.turn refused.prints (from_holds key last old opened holds)))
+        refused_said (λ l. Holds key l new.state) refused.answer replies refused.prints
+        (to_holds key last new.state (held_refused key last old.state new.state batch refused.answer replies refused.turn.turn refused.prints (from_holds key last old.state opened holds)))
     own_put_holds old new replies (inr (inl put)) opened covered unused holds = settled_holds old new replies put opened covered unused holds
     own_put_holds old new replies (inr (inr waits)) opened covered unused holds =
-        written_as (λ l. Holds key l new) _ replies (sym waits.prints) (holds_none key new)
+        written_as (λ l. Holds key l new.state) _ replies (sym waits.prints) (holds_none key new.state)
 
   module _ (keeps : TurnKeeps) (op : Op) (batch : Batch) (one : batch.ops ≡ op ∷ []) (is : value_of op ≡ value) where
-    put_by : (b : Bool) (old new : State) (replies : List Reply) → key_eq (key_of op) key ≡ b → PutRun old batch replies new → is_open old.mode.phase ≡ true → IsCovered old → AreUnused old
-        → Holds key last old → Holds key (if b then behind_write value last replies else last) new
+    put_by : (b : Bool) (old new : Driven) (replies : List Reply) → key_eq (key_of op) key ≡ b → PutRun old batch replies new → is_open old.state.mode.phase ≡ true → IsCovered old.state → AreUnused old.state
+        → Holds key last old.state → Holds key (if b then behind_write value last replies else last) new.state
     put_by true old new replies same run opened covered unused holds = own_put_holds keeps op batch one same is old new replies run opened covered unused holds
     put_by false old new replies other run opened covered unused holds =
-        to_holds key last new (other_put key last old new batch replies (subst (FreeOf key last) (sym one) (free_one key last op other)) run (from_holds key last old opened holds))
+        to_holds key last new.state (other_put key last old new batch replies (subst (FreeOf key last) (sym one) (free_one key last op other)) run (from_holds key last old.state opened holds))
 
-    not_put : (b : Bool) (old new : State) (replies : List Reply) → new ≡ old → replies ≡ reply.NotOpen ∷ [] → Holds key last old → Holds key (if b then behind_write value last replies else last) new
-    not_put true old new replies same prints holds = written_as (λ l. Holds key l new) _ replies (sym prints) (subst (Holds key last) (sym same) holds)
-    not_put false old new replies same prints holds = subst (Holds key last) (sym same) holds
+    not_put : (b : Bool) (old new : Driven) (replies : List Reply) → new ≡ old → replies ≡ reply.NotOpen ∷ [] → Holds key last old.state → Holds key (if b then behind_write value last replies else last) new.state
+    not_put true old new replies same prints holds = written_as (λ l. Holds key l new.state) _ replies (sym prints) (subst (λ (s : Driven). Holds key last s.state) (sym same) holds)
+    not_put false old new replies same prints holds = subst (λ (s : Driven). Holds key last s.state) (sym same) holds
 
 queued_as : (last : Option Acked) (P : Option Acked → Type 0) (told replies : List Reply) → told ≡ replies → P (behind_queued last told) → P (behind_queued last replies)
 queued_as last P told replies same is = subst (λ l. P (behind_queued last l)) same is
@@ -348,6 +363,7 @@ queue_refused last P (admit.Queued ticket) replies prints is = cc
 queue_refused last P (admit.BadSize part.Key size) replies prints is = queued_as last P _ replies (same_replies _ _ prints) is
 queue_refused last P (admit.BadSize part.Value size) replies prints is = queued_as last P _ replies (same_replies _ _ prints) is
 queue_refused last P (admit.BadSize part.Batch size) replies prints is = cc
+queue_refused last P admit.Closing replies prints is = queued_as last P _ replies (same_replies _ _ prints) is
 queue_refused last P admit.Booting replies prints is = queued_as last P _ replies (same_replies _ _ prints) is
 queue_refused last P (admit.Stopped failure) replies prints is = queued_as last P _ replies (same_replies _ _ prints) is
 queue_refused last P (admit.Spent counter) replies prints is = queued_as last P _ replies (same_replies _ _ prints) is
@@ -356,18 +372,18 @@ queue_refused last P (admit.QueueFull waiting) replies prints is = queued_as las
 queue_refused last P admit.OutOfMemory replies prints is = cc
 
 module _ (key : List ℕ) (last : Option Acked) (op : Op) (batch : Batch) (one : batch.ops ≡ op ∷ []) where
-  queue_by : (b : Bool) (old new : State) (replies : List Reply) → key_eq (key_of op) key ≡ b → QueueRun old batch replies new → is_open old.mode.phase ≡ true → Holds key last old
-      → Holds key (if b then behind_queued last replies else last) new
+  queue_by : (b : Bool) (old new : Driven) (replies : List Reply) → key_eq (key_of op) key ≡ b → QueueRun old batch replies new → is_open old.state.mode.phase ≡ true → Holds key last old.state
+      → Holds key (if b then behind_queued last replies else last) new.state
   queue_by true old new replies same (inl refused) opened holds =
-      queue_refused last (λ l. Holds key l new) refused.answer replies refused.prints
-      (to_holds key last new (held_refused key last old new batch refused.answer replies refused.turn refused.prints (from_holds key last old opened holds)))
-  queue_by true old new replies same (inr queues) opened holds = queued_as last (λ l. Holds key l new) _ replies (sym queues.prints) (holds_none key new)
+      queue_refused last (λ l. Holds key l new.state) refused.answer replies refused.prints
+      (to_holds key last new.state (held_refused key last old.state new.state batch refused.answer replies refused.turn.turn refused.prints (from_holds key last old.state opened holds)))
+  queue_by true old new replies same (inr queues) opened holds = queued_as last (λ l. Holds key l new.state) _ replies (sym queues.prints) (holds_none key new.state)
   queue_by false old new replies other run opened holds =
-      to_holds key last new (other_queued key last old new batch replies (subst (FreeOf key last) (sym one) (free_one key last op other)) run (from_holds key last old opened holds))
+      to_holds key last new.state (other_queued key last old new batch replies (subst (FreeOf key last) (sym one) (free_one key last op other)) run (from_holds key last old.state opened holds))
 
-  not_queued : (b : Bool) (old new : State) (replies : List Reply) → new ≡ old → replies ≡ reply.NotOpen ∷ [] → Holds key last old → Holds key (if b then behind_queued last replies else last) new
-  not_queued true old new replies same prints holds = queued_as last (λ l. Holds key l new) _ replies (sym prints) (subst (Holds key last) (sym same) holds)
-  not_queued false old new replies same prints holds = subst (Holds key last) (sym same) holds
+  not_queued : (b : Bool) (old new : Driven) (replies : List Reply) → new ≡ old → replies ≡ reply.NotOpen ∷ [] → Holds key last old.state → Holds key (if b then behind_queued last replies else last) new.state
+  not_queued true old new replies same prints holds = queued_as last (λ l. Holds key l new.state) _ replies (sym prints) (subst (λ (s : Driven). Holds key last s.state) (sym same) holds)
+  not_queued false old new replies same prints holds = subst (λ (s : Driven). Holds key last s.state) (sym same) holds
 
 -- ---- an opening
 
@@ -395,11 +411,11 @@ module _ (key : List ℕ) (last : Option Acked) where
 
 -- ---- commands
 
-store_holds : (keeps : TurnKeeps) (key : List ℕ) (last : Option Acked) (options : Options) (b : Bool) (old new : State) (command : Command) (replies : List Reply) → is_open old.mode.phase ≡ b
-    → RestsOrCalls options (rest_reply b command) old command replies new → IsCovered old → AreUnused old → Holds key last old → Holds key (last_write key last command replies) new
+store_holds : (keeps : TurnKeeps) (key : List ℕ) (last : Option Acked) (options : Options) (b : Bool) (old new : Driven) (command : Command) (replies : List Reply) → is_open old.state.mode.phase ≡ b
+    → RestsOrCalls options (rest_reply b command) old command replies new → IsCovered old.state → AreUnused old.state → Holds key last old.state → Holds key (last_write key last command replies) new.state
 store_holds keeps key last options true old new Open replies opened rests covered unused holds =
-    subst (λ l. Holds key (behind_opening last l) new) (sym rests.prints) (subst (Holds key last) (sym rests.same) holds)
-store_holds keeps key last options false old new Open replies opened run covered unused holds = found_holds key last options old new run.answer replies run.turn run.prints opened holds
+    subst (λ l. Holds key (behind_opening last l) new.state) (sym rests.prints) (subst (λ (s : Driven). Holds key last s.state) (sym rests.same) holds)
+store_holds keeps key last options false old new Open replies opened run covered unused holds = found_holds key last options old.state new.state run.answer replies run.turn run.prints opened holds
 store_holds keeps key last options true old new (Put written value sync) replies opened run covered unused holds =
     put_by key last (Some value) keeps (op.Put written value) (put_batch written value sync) refl refl (key_eq written key) old new replies refl run opened covered unused holds
 store_holds keeps key last options false old new (Put written value sync) replies opened rests covered unused holds =
@@ -417,40 +433,42 @@ store_holds keeps key last options true old new (QueueDel client written sync) r
 store_holds keeps key last options false old new (QueueDel client written sync) replies opened rests covered unused holds =
     not_queued key last (op.Del written) (del_batch written sync) refl (key_eq written key) old new replies rests.same rests.prints holds
 store_holds keeps key last options true old new Write replies opened run covered unused holds =
-    to_holds key last new (held_written key last old new None run.step run.turn (from_holds key last old opened holds))
-store_holds keeps key last options false old new Write replies opened rests covered unused holds = subst (Holds key last) (sym rests.same) holds
+    to_holds key last new.state (held_written key last old.state new.state old.jobs.write run.step run.turn.turn (from_holds key last old.state opened holds))
+store_holds keeps key last options false old new Write replies opened rests covered unused holds = subst (λ (s : Driven). Holds key last s.state) (sym rests.same) holds
 store_holds keeps key last options true old new Flush replies opened run covered unused holds =
-    to_holds key last new (held_flushed key last old new run.draft None run.step run.turn (from_holds key last old opened holds))
-store_holds keeps key last options false old new Flush replies opened rests covered unused holds = subst (Holds key last) (sym rests.same) holds
+    to_holds key last new.state (held_flushed key last old.state new.state run.draft old.jobs.flush run.step run.turn.turn (from_holds key last old.state opened holds))
+store_holds keeps key last options false old new Flush replies opened rests covered unused holds = subst (λ (s : Driven). Holds key last s.state) (sym rests.same) holds
 store_holds keeps key last options true old new ResumeStep replies opened run covered unused holds =
-    to_holds key last new (held_resumed key last old new run.drafts None run.step run.turn (from_holds key last old opened holds))
-store_holds keeps key last options false old new ResumeStep replies opened rests covered unused holds = subst (Holds key last) (sym rests.same) holds
+    to_holds key last new.state (held_resumed key last old.state new.state run.drafts old.jobs.resume run.step run.turn.turn (from_holds key last old.state opened holds))
+store_holds keeps key last options false old new ResumeStep replies opened rests covered unused holds = subst (λ (s : Driven). Holds key last s.state) (sym rests.same) holds
 store_holds keeps key last options true old new Resume replies opened run covered unused holds =
-    to_holds key last new (held_begun key last old new run.answer run.turn (from_holds key last old opened holds))
-store_holds keeps key last options false old new Resume replies opened rests covered unused holds = subst (Holds key last) (sym rests.same) holds
-store_holds keeps key last options true old new (Get asked) replies opened run covered unused holds = holds_seen key last old new run.turn.1 holds
-store_holds keeps key last options false old new (Get asked) replies opened rests covered unused holds = subst (Holds key last) (sym rests.same) holds
-store_holds keeps key last options true old new (Scan from to) replies opened run covered unused holds = holds_seen key last old new run.turn.1 holds
-store_holds keeps key last options false old new (Scan from to) replies opened rests covered unused holds = subst (Holds key last) (sym rests.same) holds
+    to_holds key last new.state (held_begun key last old.state new.state run.answer run.turn.turn (from_holds key last old.state opened holds))
+store_holds keeps key last options false old new Resume replies opened rests covered unused holds = subst (λ (s : Driven). Holds key last s.state) (sym rests.same) holds
+store_holds keeps key last options true old new Close replies opened run covered unused holds = holds_closed key last old new replies run opened holds
+store_holds keeps key last options false old new Close replies opened rests covered unused holds = subst (λ (s : Driven). Holds key last s.state) (sym rests.same) holds
+store_holds keeps key last options true old new (Get asked) replies opened run covered unused holds = holds_seen key last old.state new.state run.turn.turn.1 holds
+store_holds keeps key last options false old new (Get asked) replies opened rests covered unused holds = subst (λ (s : Driven). Holds key last s.state) (sym rests.same) holds
+store_holds keeps key last options true old new (Scan from to) replies opened run covered unused holds = holds_seen key last old.state new.state run.turn.turn.1 holds
+store_holds keeps key last options false old new (Scan from to) replies opened rests covered unused holds = subst (λ (s : Driven). Holds key last s.state) (sym rests.same) holds
 store_holds keeps key last options true old new (Drain moves) replies opened run covered unused holds =
-    to_holds key last new (held_drained key last moves old new replies run (from_holds key last old opened holds))
-store_holds keeps key last options false old new (Drain moves) replies opened rests covered unused holds = subst (Holds key last) (sym rests.same) holds
-store_holds keeps key last options true old new Error replies opened run covered unused holds = holds_seen key last old new run.turn.1 holds
-store_holds keeps key last options false old new Error replies opened rests covered unused holds = subst (Holds key last) (sym rests.same) holds
-store_holds keeps key last options true old new Levels replies opened run covered unused holds = holds_seen key last old new run.turn.1 holds
-store_holds keeps key last options false old new Levels replies opened rests covered unused holds = subst (Holds key last) (sym rests.same) holds
-store_holds keeps key last options true old new (Fail call fault_ skip times keep) replies opened run covered unused holds = holds_seen key last old new run.turn.1 holds
-store_holds keeps key last options false old new (Fail call fault_ skip times keep) replies opened run covered unused holds = holds_seen key last old new run.turn.1 holds
-store_holds keeps key last options true old new (Capacity bytes) replies opened run covered unused holds = holds_seen key last old new run.turn.1 holds
-store_holds keeps key last options false old new (Capacity bytes) replies opened run covered unused holds = holds_seen key last old new run.turn.1 holds
-store_holds keeps key last options true old new Files replies opened run covered unused holds = holds_seen key last old new run.turn.1 holds
-store_holds keeps key last options false old new Files replies opened run covered unused holds = holds_seen key last old new run.turn.1 holds
+    to_holds key last new.state (held_drained key last moves old new replies run (from_holds key last old.state opened holds))
+store_holds keeps key last options false old new (Drain moves) replies opened rests covered unused holds = subst (λ (s : Driven). Holds key last s.state) (sym rests.same) holds
+store_holds keeps key last options true old new Error replies opened run covered unused holds = holds_seen key last old.state new.state run.turn.turn.1 holds
+store_holds keeps key last options false old new Error replies opened rests covered unused holds = subst (λ (s : Driven). Holds key last s.state) (sym rests.same) holds
+store_holds keeps key last options true old new Levels replies opened run covered unused holds = holds_seen key last old.state new.state run.turn.turn.1 holds
+store_holds keeps key last options false old new Levels replies opened rests covered unused holds = subst (λ (s : Driven). Holds key last s.state) (sym rests.same) holds
+store_holds keeps key last options true old new (Fail call fault_ skip times keep) replies opened run covered unused holds = holds_seen key last old.state new.state run.turn.turn.1 holds
+store_holds keeps key last options false old new (Fail call fault_ skip times keep) replies opened run covered unused holds = holds_seen key last old.state new.state run.turn.turn.1 holds
+store_holds keeps key last options true old new (Capacity bytes) replies opened run covered unused holds = holds_seen key last old.state new.state run.turn.turn.1 holds
+store_holds keeps key last options false old new (Capacity bytes) replies opened run covered unused holds = holds_seen key last old.state new.state run.turn.turn.1 holds
+store_holds keeps key last options true old new Files replies opened run covered unused holds = holds_seen key last old.state new.state run.turn.turn.1 holds
+store_holds keeps key last options false old new Files replies opened run covered unused holds = holds_seen key last old.state new.state run.turn.turn.1 holds
 store_holds keeps key last options true old new (Crash dirops keep garbage seed) replies opened run covered unused holds =
-    holds_crashed key last old.device.simulated old new (record { dirops = dirops; keep = keep; garbage = garbage; seed = seed }) replies run holds
+    holds_crashed key last old.state.device.simulated old new (record { dirops = dirops; keep = keep; garbage = garbage; seed = seed }) replies run holds
 store_holds keeps key last options false old new (Crash dirops keep garbage seed) replies opened run covered unused holds =
-    holds_crashed key last old.device.simulated old new (record { dirops = dirops; keep = keep; garbage = garbage; seed = seed }) replies run holds
-store_holds keeps key last options true old new command replies opened rests covered unused holds = subst (Holds key last) (sym rests.same) holds
-store_holds keeps key last options false old new command replies opened rests covered unused holds = subst (Holds key last) (sym rests.same) holds
+    holds_crashed key last old.state.device.simulated old new (record { dirops = dirops; keep = keep; garbage = garbage; seed = seed }) replies run holds
+store_holds keeps key last options true old new command replies opened rests covered unused holds = subst (λ (s : Driven). Holds key last s.state) (sym rests.same) holds
+store_holds keeps key last options false old new command replies opened rests covered unused holds = subst (λ (s : Driven). Holds key last s.state) (sym rests.same) holds
 
 set_same : (b : Bool) (old new : Session) (name : OptionName) (value : ℕ) (replies : List Reply) → SetRun b old name value replies new → new.store ≡ old.store
 set_same true old new name value replies rests = ap (λ (s : Session). s.store) rests.same
@@ -463,7 +481,7 @@ carried_holds keeps key last old new (SetOption name value) replies run covered 
     subst (Holds key last) (sym (set_same (is_open old.store.mode.phase) old new name value replies run)) holds
 carried_holds keeps key last old new (Tick ticks) replies run covered unused holds = subst (Holds key last) (sym (ap (λ (s : Session). s.store) run.passes)) holds
 carried_holds keeps key last old new command replies run covered unused holds =
-    store_holds keeps key last old.options (is_open old.store.mode.phase) old.store new.store command replies refl run.carries covered unused holds
+    store_holds keeps key last old.options (is_open old.store.mode.phase) (driven_in old) (driven_in new) command replies refl run.carries covered unused holds
 
 -- ---- reads
 
@@ -498,10 +516,10 @@ unopened_shown : (last : Option Acked) (replies : List Reply) → replies ≡ re
 unopened_shown None replies prints = tt
 unopened_shown (Some write) replies prints = subst (Shows (Some write)) (sym prints) tt
 
-get_shown : (key : List ℕ) (last : Option Acked) (options : Options) (b : Bool) (old new : State) (replies : List Reply) → is_open old.mode.phase ≡ b
-    → RestsOrCalls options (rest_reply b (Get key)) old (Get key) replies new → old.footing ≡ Known → Holds key last old → Shows last replies
+get_shown : (key : List ℕ) (last : Option Acked) (options : Options) (b : Bool) (old new : Driven) (replies : List Reply) → is_open old.state.mode.phase ≡ b
+    → RestsOrCalls options (rest_reply b (Get key)) old (Get key) replies new → old.state.footing ≡ Known → Holds key last old.state → Shows last replies
 get_shown key last options true old new replies opened run known holds =
-    got_shown key last old new run.answer replies run.turn run.prints known (holds_open key last old opened known holds)
+    got_shown key last old.state new.state run.answer replies run.turn.turn run.prints known (holds_open key last old.state opened known holds)
 get_shown key last options false old new replies opened rests known holds = unopened_shown last replies rests.prints
 
 -- a scan over the key
@@ -556,18 +574,18 @@ unopened_scan : (key : List ℕ) (last : Option Acked) (replies : List Reply) �
 unopened_scan key None replies prints = tt
 unopened_scan key (Some write) replies prints = subst (ShowsRows key (Some write)) (sym prints) (tt, nothing_shown key write.value (reply.NotOpen ∷ []) (λ v. tt))
 
-scan_shown : (key : List ℕ) (last : Option Acked) (from to : List ℕ) (options : Options) (b : Bool) (old new : State) (replies : List Reply) → is_open old.mode.phase ≡ b
-    → RestsOrCalls options (rest_reply b (Scan from to)) old (Scan from to) replies new → old.footing ≡ Known → Holds key last old → is_within from to key ≡ true → ShowsRows key last replies
+scan_shown : (key : List ℕ) (last : Option Acked) (from to : List ℕ) (options : Options) (b : Bool) (old new : Driven) (replies : List Reply) → is_open old.state.mode.phase ≡ b
+    → RestsOrCalls options (rest_reply b (Scan from to)) old (Scan from to) replies new → old.state.footing ≡ Known → Holds key last old.state → is_within from to key ≡ true → ShowsRows key last replies
 scan_shown key last from to options true old new replies opened run known holds within =
-    scanned_shown key last from to old new run.answer replies run.turn run.prints known (holds_open key last old opened known holds) within
+    scanned_shown key last from to old.state new.state run.answer replies run.turn.turn run.prints known (holds_open key last old.state opened known holds) within
 scan_shown key last from to options false old new replies opened rests known holds within = unopened_scan key last replies rests.prints
 
 is_shown : (key : List ℕ) (last : Option Acked) (old new : Session) (command : Command) (replies : List Reply) → Carries old command replies new → old.store.footing ≡ Known → Holds key last old.store
     → IsShown key last command replies
 is_shown key last old new (Get asked) replies run known holds = λ same.
-    get_shown asked last old.options (is_open old.store.mode.phase) old.store new.store replies refl run.carries known (subst (λ (k : List ℕ). Holds k last old.store) (sym same) holds)
+    get_shown asked last old.options (is_open old.store.mode.phase) (driven_in old) (driven_in new) replies refl run.carries known (subst (λ (k : List ℕ). Holds k last old.store) (sym same) holds)
 is_shown key last old new (Scan from to) replies run known holds = λ within.
-    scan_shown key last from to old.options (is_open old.store.mode.phase) old.store new.store replies refl run.carries known holds within
+    scan_shown key last from to old.options (is_open old.store.mode.phase) (driven_in old) (driven_in new) replies refl run.carries known holds within
 is_shown key last old new command replies run known holds = tt
 
 -- ---- a run

@@ -16,16 +16,17 @@ use Rattle.keel_machine.specs.States.{State}
 use Rattle.keel_machine.specs.Tests.{first_some, when}
 
 -- none of the later tests names a size
-no_size : (boots : Bool) (failure : Option Failure) (sequence ticket full many : Bool) (weight others waits n : ℕ)
-    → first_some (when boots admit.Booting ∷ option_map admit.Stopped failure ∷ when sequence (admit.Spent Sequence) ∷ when ticket (admit.Spent Ticket)
+no_size : (closes boots : Bool) (failure : Option Failure) (sequence ticket full many : Bool) (weight others waits n : ℕ)
+    → first_some (when closes admit.Closing ∷ when boots admit.Booting ∷ option_map admit.Stopped failure ∷ when sequence (admit.Spent Sequence) ∷ when ticket (admit.Spent Ticket)
     ∷ when full (admit.Full weight others) ∷ when many (admit.QueueFull waits) ∷ []) ≡ Some (admit.BadSize part.Batch n) → ⊥
-no_size true failure sequence ticket full many weight others waits n is = absurd cc
-no_size false (Some failure) sequence ticket full many weight others waits n is = absurd cc
-no_size false None true ticket full many weight others waits n is = absurd cc
-no_size false None false true full many weight others waits n is = absurd cc
-no_size false None false false true many weight others waits n is = absurd cc
-no_size false None false false false true weight others waits n is = absurd cc
-no_size false None false false false false weight others waits n is = absurd cc
+no_size true boots failure sequence ticket full many weight others waits n is = absurd cc
+no_size false true failure sequence ticket full many weight others waits n is = absurd cc
+no_size false false (Some failure) sequence ticket full many weight others waits n is = absurd cc
+no_size false false None true ticket full many weight others waits n is = absurd cc
+no_size false false None false true full many weight others waits n is = absurd cc
+no_size false false None false false true many weight others waits n is = absurd cc
+no_size false false None false false false true weight others waits n is = absurd cc
+no_size false false None false false false false weight others waits n is = absurd cc
 
 -- ---- the tests of sizes
 
@@ -92,5 +93,5 @@ one_op_fits s batch n one is =
     let tests = in_order (size_refusal batch) _ (admit.BadSize part.Batch n) is in
     elim tests [
       | inl sizes ↦ op_sizes first.0 batch.sync n (subst (λ (ops : List Op). size_refusal (record { ops = ops; sync = batch.sync }) ≡ Some (admit.BadSize part.Batch n)) first.1 sizes)
-      | inr later ↦ no_size _ (stopping s) _ _ _ _ _ _ (length s.writing.waiting) n later
+      | inr later ↦ no_size _ _ (stopping s) _ _ _ _ _ _ (length s.writing.waiting) n later
     ]

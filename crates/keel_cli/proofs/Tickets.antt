@@ -334,16 +334,29 @@ not_unknown None true told known same = absurd cc
 not_unknown None false told (inl is) same = absurd cc
 not_unknown None false told (inr is) same = absurd cc
 not_unknown (Some outcome.Waiting) on_way told known same = absurd told
+not_unknown (Some outcome.Closed) on_way told known same = absurd told
 not_unknown (Some outcome.Unknown) on_way told known same = absurd told
 not_unknown (Some (outcome.Done seq)) on_way told known same = absurd cc
 not_unknown (Some (outcome.Failed failure)) on_way told known same = absurd cc
 not_unknown (Some (outcome.Turned failure)) on_way told known same = absurd cc
+
+-- nor was it given by closing the store
+not_closed : (kept : Option Outcome) (on_way : Bool) → IfSome kept IsTold → unwrap_or kept (if on_way then outcome.Waiting else outcome.Unknown) ≢ outcome.Closed
+not_closed None true told same = absurd cc
+not_closed None false told same = absurd cc
+not_closed (Some outcome.Closed) on_way told same = absurd told
+not_closed (Some outcome.Waiting) on_way told same = absurd told
+not_closed (Some outcome.Unknown) on_way told same = absurd told
+not_closed (Some (outcome.Done seq)) on_way told same = absurd cc
+not_closed (Some (outcome.Failed failure)) on_way told same = absurd cc
+not_closed (Some (outcome.Turned failure)) on_way told same = absurd cc
 
 waits_on_way : (kept : Option Outcome) (on_way : Bool) → IfSome kept IsTold
     → unwrap_or kept (if on_way then outcome.Waiting else outcome.Unknown) ≡ outcome.Waiting → on_way ≡ true
 waits_on_way None true told same = refl
 waits_on_way None false told same = absurd cc
 waits_on_way (Some outcome.Waiting) on_way told same = absurd told
+waits_on_way (Some outcome.Closed) on_way told same = absurd told
 waits_on_way (Some outcome.Unknown) on_way told same = absurd told
 waits_on_way (Some (outcome.Done seq)) on_way told same = absurd cc
 waits_on_way (Some (outcome.Failed failure)) on_way told same = absurd cc
@@ -353,6 +366,9 @@ waits_on_way (Some (outcome.Turned failure)) on_way told same = absurd cc
 pub told_known : (ticket : ℕ) (s : State) → Fine ticket s → outcome_of s ticket ≢ outcome.Unknown
 told_known ticket s fine =
     not_unknown (outcome_kept ticket s.writing.outcomes) (is_on_its_way ticket s) (kept_told ticket s.writing.outcomes fine.told) fine.known
+
+pub told_open : (ticket : ℕ) (s : State) → Fine ticket s → outcome_of s ticket ≢ outcome.Closed
+told_open ticket s fine = not_closed (outcome_kept ticket s.writing.outcomes) (is_on_its_way ticket s) (kept_told ticket s.writing.outcomes fine.told)
 
 -- what waits is on its way
 pub waits_known : (ticket : ℕ) (s : State) → AreTold s.writing.outcomes → outcome_of s ticket ≡ outcome.Waiting → is_on_its_way ticket s ≡ true

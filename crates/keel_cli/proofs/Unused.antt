@@ -7,7 +7,7 @@ use Rattle.keel_group.specs.Forming.{next_size}
 use Rattle.keel_group.specs.Queue.{Ticketed, tickets_of}
 use Rattle.keel_machine.specs.Admission.{outcome_kept, tickets_of_group}
 use Rattle.keel_machine.specs.States.{State, Group, Slot, Act, CloseLog, MakeLog, SyncDirectory, AddRecords, SyncLog, Writing, left_of, is_open}
-use Rattle.keel_machine.specs.Turns.{Event, Opening, Admitting, Writing as Makes, Resuming, Flushing, TakingOutcome, Getting, Scanning, Listing, TellingError, TellingLevels, Arranging, Crashing, Starting, Finishing, Turn, after}
+use Rattle.keel_machine.specs.Turns.{Event, Opening, Admitting, Writing as Makes, Resuming, Flushing, TakingOutcome, Getting, Scanning, Listing, TellingError, TellingLevels, Arranging, Crashing, Starting, Finishing, Turn, after, ShuttingDown}
 use Rattle.keel_machine.specs.Writing.{ready, started, started_or}
 use Rattle.keel_machine.specs.WritingAfter.{with_made, switched, goes_on, first_done, first_failed, group_done, group_failed, call_done, write_after}
 use Rattle.keel_machine.specs.declared.answers.Admit.{Admit}
@@ -24,6 +24,7 @@ use Rattle.keel_cli.proofs.Flooring.{firm_resumed}
 use Rattle.keel_cli.proofs.Owning.{kept_skip, none_filter, Lacks, given_none}
 use Rattle.keel_cli.proofs.OwnSteps.{IsApart, apart_group, apart_group_failed}
 use Rattle.keel_cli.proofs.Tickets.{given}
+use Rattle.keel_machine.specs.Closing.{close_after, open_tickets}
 
 -- ---- the last ticket
 
@@ -152,6 +153,20 @@ module _ (ticket : ℕ) where
         lacks = tt;
       })
 
+  lacks_both : (first second : List ℕ) → Lacks ticket first → Lacks ticket second → Lacks ticket (first ++ second)
+  lacks_both [] second one two = two
+  lacks_both (other ∷ first) second one two = (one.0, lacks_both first second one.1 two)
+
+  -- the store is closed, and each ticket without an outcome gets one
+  unused_closed : (s : State) → IsUnused ticket s → IsUnused ticket (close_after s)
+  unused_closed s unused = record {
+    none =
+        kept_skip ticket s.writing.outcomes (given outcome.Closed (open_tickets s)) unused.none
+        ∙ given_none ticket outcome.Closed (open_tickets s) (lacks_both (tickets_of_group s.jobs.write.running) (tickets_of s.writing.waiting) unused.lacks unused.owned);
+    owned = tt;
+    lacks = tt;
+  }
+
   pub unused_seen : (s : State) (device : Seen) → IsUnused ticket s → IsUnused ticket (record s { device = device })
   unused_seen s device unused = record { none = unused.none; owned = unused.owned; lacks = unused.lacks }
 
@@ -175,6 +190,7 @@ admitted_unused s batch (admit.Queued given_as) device opened unused = λ opens 
       lacks = before.lacks;
     }
 admitted_unused s batch (admit.BadSize part size) device opened unused = seen_unused s device unused
+admitted_unused s batch admit.Closing device opened unused = seen_unused s device unused
 admitted_unused s batch admit.Booting device opened unused = seen_unused s device unused
 admitted_unused s batch (admit.Stopped failure) device opened unused = seen_unused s device unused
 admitted_unused s batch (admit.Spent counter) device opened unused = seen_unused s device unused
@@ -217,7 +233,9 @@ answer_unused s (Crashing pick (Some count)) device may unused = λ opens. cc
 answer_unused s (Crashing pick None) device may unused = λ opens. cc
 answer_unused s (Starting answer) device may unused = λ opens ticket above.
     unused_seen ticket (start_after s answer) device (unused_begun ticket s answer (unused may ticket (omega (arith, above, (still_there s answer).last))))
-answer_unused s Finishing device may unused = absurd may
+answer_unused s (ShuttingDown tickets) device may unused = λ opens ticket above.
+    unused_seen ticket (close_after s) device (unused_closed ticket s (unused may ticket above))
+answer_unused s Finishing device may unused = λ opens. cc
 
 pub keep_unused : (old new : State) (event : Event) → MayCall old event → Turn old event new → AreUnused old → AreUnused new
 keep_unused old new event may turn unused = subst AreUnused (sym turn.1) (answer_unused old event new.device may unused)

@@ -3,12 +3,12 @@ use Rattle.std.specs.Prelude.{◌≡◌, Bool, true, false, Option, None, Some, 
 use Rattle.keel_base.specs.declared.memory.OutOfMemory.{OutOfMemory}
 use Rattle.keel_disk.specs.declared.rule.Rule.{Rule}
 use Rattle.keel_disk.specs.declared.rule.Rule.TheVariants.{Fail, Capacity}
-use Rattle.keel_machine.specs.States.{State}
-use Rattle.keel_machine.specs.Turns.{Turn, Arranging}
+use Rattle.keel_machine.specs.Turns.{Arranging}
 use Rattle.keel_script.specs.declared.command.Command.{Command}
 use Rattle.keel_script.specs.declared.command.Command.TheVariants as command
 use Rattle.keel_script.specs.declared.reply.Reply.{Reply}
 use Rattle.keel_script.specs.declared.reply.Reply.TheVariants as reply
+use Rattle.keel_cli.specs.Jobs.{Driven, PlainTurn}
 
 -- the rule that a command asks for, with its own numbers
 abbrev pub rule_of : Command → Option Rule
@@ -28,11 +28,11 @@ arranged_replies rule (Ok done) = Some (rule_reply rule done ∷ [])
 arranged_replies rule (Err e) = None
 
 -- this rule is arranged with these replies
-pub record ArrangeRun (old : State) (rule : Rule) (replies : List Reply) (new : State) : Type 0 where
+pub record ArrangeRun (old : Driven) (rule : Rule) (replies : List Reply) (new : Driven) : Type 0 where
   pub answer : Result Bool OutOfMemory
-  pub turn : Turn old (Arranging rule answer) new
+  pub turn : PlainTurn old (Arranging rule answer) new
   pub prints : arranged_replies rule answer ≡ Some replies
 
 -- memory ended at it
-abbrev pub ArrangeCut : State → Rule → State → Type 0
-ArrangeCut old rule new = (e : OutOfMemory) × Turn old (Arranging rule (Err e)) new
+abbrev pub ArrangeCut : Driven → Rule → Driven → Type 0
+ArrangeCut old rule new = (e : OutOfMemory) × PlainTurn old (Arranging rule (Err e)) new

@@ -2,11 +2,10 @@
 use Rattle.std.specs.Prelude.{◌≡◌, Option, None, Some, List, [], ◌∷◌}
 use Rattle.keel_machine.specs.declared.steps.ResumeStep.{ResumeStep}
 use Rattle.keel_machine.specs.declared.steps.ResumeStep.TheVariants as step
-use Rattle.keel_machine.specs.States.{State}
-use Rattle.keel_machine.specs.Turns.{Turn, Resuming}
 use Rattle.keel_draft.specs.Drafts.{Draft}
 use Rattle.keel_script.specs.declared.reply.Reply.{Reply}
 use Rattle.keel_script.specs.declared.reply.Reply.TheVariants as reply
+use Rattle.keel_cli.specs.Jobs.{Driven, ResumeTurn}
 
 -- the reply that prints a step; want of memory has none
 abbrev pub boot_replies : ResumeStep → Option (List Reply)
@@ -19,12 +18,12 @@ boot_replies (step.Cancelled job current) = Some (reply.Cancelled job current �
 boot_replies step.OutOfMemory = None
 
 -- a step with these replies, of a boot that has these tables before it
-pub record BootRun (old : State) (replies : List Reply) (new : State) : Type 0 where
+pub record BootRun (old : Driven) (replies : List Reply) (new : Driven) : Type 0 where
   pub step : ResumeStep
   pub drafts : List Draft
-  pub turn : Turn old (Resuming drafts None step) new
+  pub turn : ResumeTurn old drafts step new
   pub prints : boot_replies step ≡ Some replies
 
 -- memory ended at the step
-abbrev pub BootCut : State → State → Type 0
-BootCut old new = (drafts : List Draft) × Turn old (Resuming drafts None step.OutOfMemory) new
+abbrev pub BootCut : Driven → Driven → Type 0
+BootCut old new = (drafts : List Draft) × ResumeTurn old drafts step.OutOfMemory new

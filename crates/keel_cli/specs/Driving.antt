@@ -7,12 +7,12 @@ use Rattle.keel_cli.specs.declared.lines.LineStop.{LineStop}
 use Rattle.keel_cli.specs.Cuts.{CutShort}
 use Rattle.keel_cli.specs.Replies.{replies_of}
 use Rattle.keel_cli.specs.Runs.{Carries}
-use Rattle.keel_cli.specs.Sessions.{Session}
+use Rattle.keel_cli.specs.Sessions.{Session, driven_in}
 use Rattle.keel_cli.specs.Stores.{Stands, Shows}
 
 -- the driver has what the session has
 pub record StandsAt {V : Type 0} (driver : Driver V) (session : Session) : Type 0 where
-  pub store : Stands driver.store session.store
+  pub store : Stands driver.store (driven_in session)
   pub options : session.options ≡ driver.settings
   pub tick : session.tick ≡ driver.tick
 

@@ -2,11 +2,10 @@
 use Rattle.std.specs.Prelude.{◌≡◌, Option, None, Some, List, [], ◌∷◌}
 use Rattle.keel_machine.specs.declared.steps.JobStep.{JobStep}
 use Rattle.keel_machine.specs.declared.steps.JobStep.TheVariants as step
-use Rattle.keel_machine.specs.States.{State}
-use Rattle.keel_machine.specs.Turns.{Turn, Flushing}
 use Rattle.keel_draft.specs.Drafts.{Draft}
 use Rattle.keel_script.specs.declared.reply.Reply.{Reply}
 use Rattle.keel_script.specs.declared.reply.Reply.TheVariants as reply
+use Rattle.keel_cli.specs.Jobs.{Driven, FlushTurn}
 
 -- the reply that prints a step; want of memory has none
 abbrev pub flush_replies : JobStep → Option (List Reply)
@@ -19,12 +18,12 @@ flush_replies (step.Cancelled job current) = Some (reply.Cancelled job current �
 flush_replies step.OutOfMemory = None
 
 -- a step with these replies, of a flush that makes this table
-pub record FlushRun (old : State) (replies : List Reply) (new : State) : Type 0 where
+pub record FlushRun (old : Driven) (replies : List Reply) (new : Driven) : Type 0 where
   pub step : JobStep
   pub draft : Draft
-  pub turn : Turn old (Flushing draft None step) new
+  pub turn : FlushTurn old draft step new
   pub prints : flush_replies step ≡ Some replies
 
 -- memory ended at the step
-abbrev pub FlushCut : State → State → Type 0
-FlushCut old new = (draft : Draft) × Turn old (Flushing draft None step.OutOfMemory) new
+abbrev pub FlushCut : Driven → Driven → Type 0
+FlushCut old new = (draft : Draft) × FlushTurn old draft step.OutOfMemory new

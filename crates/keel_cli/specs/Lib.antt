@@ -6,6 +6,7 @@ pub mod Boots
 pub mod Flushes
 pub mod Telling
 pub mod Starts
+pub mod Closes
 pub mod Arranging
 pub mod Drains
 pub mod Runs
@@ -16,6 +17,7 @@ pub mod Driving
 pub mod Standing
 pub mod LineEnds
 pub mod Inside
+pub mod Jobs
 pub mod Claim
 pub mod ReadClaim
 pub mod Answers

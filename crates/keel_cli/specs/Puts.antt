@@ -10,11 +10,12 @@ use Rattle.keel_machine.specs.declared.answers.Outcome.TheVariants as outcome
 use Rattle.keel_machine.specs.declared.steps.WriteStep.{WriteStep}
 use Rattle.keel_machine.specs.declared.steps.WriteStep.TheVariants as step
 use Rattle.keel_machine.specs.States.{State}
-use Rattle.keel_machine.specs.Turns.{Turn, Admitting, Writing, TakingOutcome}
+use Rattle.keel_machine.specs.Turns.{Turn, Admitting, TakingOutcome}
 use Rattle.keel_script.specs.declared.reply.Reply.{Reply}
 use Rattle.keel_script.specs.declared.reply.Reply.TheVariants as reply
 use Rattle.keel_cli.specs.declared.putting.Admitted.{Admitted}
 use Rattle.keel_cli.specs.declared.putting.Admitted.TheVariants as admitted
+use Rattle.keel_cli.specs.Jobs.{Driven, driven, PlainTurn, WriteTurn}
 
 -- the batch of one put
 abbrev pub put_batch : List ℕ → List ℕ → Bool → Batch
@@ -31,6 +32,7 @@ refusal_replies (admit.Queued ticket) = None
 refusal_replies (admit.BadSize part.Key size) = Some (reply.BadSizeKey size ∷ [])
 refusal_replies (admit.BadSize part.Value size) = Some (reply.BadSizeValue size ∷ [])
 refusal_replies (admit.BadSize part.Batch size) = None
+refusal_replies admit.Closing = Some (reply.NotOpen ∷ [])
 refusal_replies admit.Booting = Some (reply.Booting ∷ [])
 refusal_replies (admit.Stopped failure) = Some (reply.Stopped failure ∷ [])
 refusal_replies (admit.Spent counter) = Some (reply.Spent counter ∷ [])
@@ -43,40 +45,41 @@ abbrev pub Tells : Admit → Admitted → Type 0
 Tells answer (admitted.Queued ticket) = answer ≡ admit.Queued ticket
 Tells answer (admitted.Refused reply) = refusal_replies answer ≡ Some (reply ∷ [])
 
--- the reply that prints an outcome
+-- the reply that prints an outcome; a store that is closed answers no put
 abbrev pub outcome_replies : Outcome → Option (List Reply)
 outcome_replies outcome.Waiting = None
 outcome_replies (outcome.Done seq) = Some (reply.PutOk seq ∷ [])
 outcome_replies (outcome.Failed failure) = Some (reply.Failed failure ∷ [])
 outcome_replies (outcome.Turned failure) = Some (reply.Stopped failure ∷ [])
+outcome_replies outcome.Closed = None
 outcome_replies outcome.Unknown = None
 
 -- Write steps were made from one state to another, and before each the ticket waited. The last of them comes first.
-abbrev pub Waits : State → ℕ → List WriteStep → State → Type 0
+abbrev pub Waits : Driven → ℕ → List WriteStep → Driven → Type 0
 Waits old ticket [] new = new ≡ old
 Waits old ticket (made ∷ earlier) new =
-    (mid : State) × (same : State) × Waits old ticket earlier mid × Turn mid (TakingOutcome ticket outcome.Waiting) same × Turn same (Writing None made) new
+    (mid : Driven) × (same : State) × Waits old ticket earlier mid × Turn mid.state (TakingOutcome ticket outcome.Waiting) same × WriteTurn (driven same mid.jobs) made new
 
 -- the batch is queued under this ticket, and these write steps are made while it waits
-pub record Queues (old : State) (batch : Batch) (ticket : ℕ) (steps : List WriteStep) (new : State) : Type 0 where
+pub record Queues (old : Driven) (batch : Batch) (ticket : ℕ) (steps : List WriteStep) (new : Driven) : Type 0 where
   pub mid : State
-  pub queued : Turn old (Admitting batch (admit.Queued ticket)) mid
-  pub waits : Waits mid ticket steps new
+  pub queued : Turn old.state (Admitting batch (admit.Queued ticket)) mid
+  pub waits : Waits (driven mid old.jobs) ticket steps new
 
 -- the batch isn't queued
-pub record PutRefused (old : State) (batch : Batch) (replies : List Reply) (new : State) : Type 0 where
+pub record PutRefused (old : Driven) (batch : Batch) (replies : List Reply) (new : Driven) : Type 0 where
   pub answer : Admit
-  pub turn : Turn old (Admitting batch answer) new
+  pub turn : PlainTurn old (Admitting batch answer) new
   pub prints : refusal_replies answer ≡ Some replies
 
 -- write steps are made until the batch has an outcome, which is taken
-pub record PutSettled (old : State) (batch : Batch) (replies : List Reply) (new : State) : Type 0 where
+pub record PutSettled (old : Driven) (batch : Batch) (replies : List Reply) (new : Driven) : Type 0 where
   pub ticket : ℕ
   pub steps : List WriteStep
-  pub last : State
+  pub last : Driven
   pub queues : Queues old batch ticket steps last
   pub outcome : Outcome
-  pub taken : Turn last (TakingOutcome ticket outcome) new
+  pub taken : PlainTurn last (TakingOutcome ticket outcome) new
   pub prints : outcome_replies outcome ≡ Some replies
 
 -- the writer has no way to go on: a counter is at its end, or the store is full
@@ -86,7 +89,7 @@ IsStuck (step.Full active immutables) = Unit {0}
 IsStuck _ = ⊥
 
 -- the last write step has no way to go on, and the batch still waits
-pub record PutWaits (old : State) (batch : Batch) (replies : List Reply) (new : State) : Type 0 where
+pub record PutWaits (old : Driven) (batch : Batch) (replies : List Reply) (new : Driven) : Type 0 where
   pub ticket : ℕ
   pub steps : List WriteStep
   pub step : WriteStep
@@ -95,25 +98,25 @@ pub record PutWaits (old : State) (batch : Batch) (replies : List Reply) (new : 
   pub prints : replies ≡ reply.Waiting ticket ∷ []
 
 -- a put of this batch is answered by these replies
-abbrev pub PutRun : State → Batch → List Reply → State → Type 0
+abbrev pub PutRun : Driven → Batch → List Reply → Driven → Type 0
 PutRun old batch replies new = PutRefused old batch replies new ⊎ (PutSettled old batch replies new ⊎ PutWaits old batch replies new)
 
 -- memory ended at the admission, or at the last one of the write steps
-abbrev pub PutCut : State → Batch → State → Type 0
+abbrev pub PutCut : Driven → Batch → Driven → Type 0
 PutCut old batch new =
-    Turn old (Admitting batch admit.OutOfMemory) new
+    PlainTurn old (Admitting batch admit.OutOfMemory) new
     ⊎ ((ticket : ℕ) × (steps : List WriteStep) × Queues old batch ticket (step.OutOfMemory ∷ steps) new)
 
 -- the batch waits, under this ticket, and no write step is made
-pub record IsQueued (old : State) (batch : Batch) (replies : List Reply) (new : State) : Type 0 where
+pub record IsQueued (old : Driven) (batch : Batch) (replies : List Reply) (new : Driven) : Type 0 where
   pub ticket : ℕ
-  pub turn : Turn old (Admitting batch (admit.Queued ticket)) new
+  pub turn : PlainTurn old (Admitting batch (admit.Queued ticket)) new
   pub prints : replies ≡ reply.Queued ticket ∷ []
 
 -- a batch that is to be queued alone is answered by these replies
-abbrev pub QueueRun : State → Batch → List Reply → State → Type 0
+abbrev pub QueueRun : Driven → Batch → List Reply → Driven → Type 0
 QueueRun old batch replies new = PutRefused old batch replies new ⊎ IsQueued old batch replies new
 
 -- memory ended at its admission
-abbrev pub QueueCut : State → Batch → State → Type 0
-QueueCut old batch new = Turn old (Admitting batch admit.OutOfMemory) new
+abbrev pub QueueCut : Driven → Batch → Driven → Type 0
+QueueCut old batch new = PlainTurn old (Admitting batch admit.OutOfMemory) new

@@ -18,11 +18,10 @@ use Rattle.keel_machine.specs.declared.answers.Got.{Got}
 use Rattle.keel_machine.specs.declared.answers.Got.TheVariants as got
 use Rattle.keel_machine.specs.declared.answers.Scanned.{Scanned}
 use Rattle.keel_machine.specs.declared.answers.Scanned.TheVariants as scanned
-use Rattle.keel_machine.specs.States.{State}
 use Rattle.keel_machine.specs.Turns.{Turn, Opening, Getting, Scanning, Listing, Crashing}
 use Rattle.keel_machine.specs.States.{is_open}
 use Rattle.keel_script.specs.declared.command.Command.{Command}
-use Rattle.keel_script.specs.declared.command.Command.TheVariants.{SetOption, Open, Put, Del, QueuePut, QueueDel, Write, Flush, Resume, ResumeStep, Drain, Tick, Get, Scan, Error, Files, Levels, Fail, Capacity, Crash}
+use Rattle.keel_script.specs.declared.command.Command.TheVariants.{SetOption, Open, Put, Del, QueuePut, QueueDel, Write, Flush, Resume, ResumeStep, Drain, Tick, Get, Scan, Error, Files, Levels, Close, Fail, Capacity, Crash}
 use Rattle.keel_script.specs.declared.reply.Reply.{Reply}
 use Rattle.keel_script.specs.declared.reply.Reply.TheVariants as reply
 use Rattle.keel_cli.specs.Arranging.{ArrangeRun, ArrangeCut}
@@ -30,10 +29,12 @@ use Rattle.keel_cli.specs.Boots.{BootRun, BootCut}
 use Rattle.keel_cli.specs.Drains.{DrainRun, DrainCut}
 use Rattle.keel_cli.specs.Flushes.{FlushRun, FlushCut}
 use Rattle.keel_cli.specs.Puts.{put_batch, del_batch, PutRun, PutCut, QueueRun, QueueCut}
+use Rattle.keel_cli.specs.Closes.{CloseRun}
 use Rattle.keel_cli.specs.Starts.{StartRun}
 use Rattle.keel_cli.specs.Telling.{ErrorRun, LevelsRun}
 use Rattle.keel_cli.specs.Writes.{WriteRun, WriteCut}
-use Rattle.keel_cli.specs.Sessions.{Session, with_store}
+use Rattle.keel_cli.specs.Jobs.{Driven, PlainTurn, no_jobs}
+use Rattle.keel_cli.specs.Sessions.{Session, driven_in, with_store}
 
 -- ---- replies to calls
 
@@ -90,32 +91,34 @@ pub record Rests {S : Type 0} (old : S) (reply : Reply) (replies : List Reply) (
   pub prints : replies ≡ reply ∷ []
 
 -- an opening with these options and these replies
-pub record OpenRun (options : Options) (old : State) (replies : List Reply) (new : State) : Type 0 where
+pub record OpenRun (options : Options) (old : Driven) (replies : List Reply) (new : Driven) : Type 0 where
   pub answer : Result Found OpenRefusal
-  pub turn : Turn old (Opening options answer) new
+  pub turn : Turn old.state (Opening options answer) new.state
+  pub jobs : new.jobs ≡ no_jobs
   pub prints : opening_replies answer ≡ Some replies
 
 -- a read with these replies
-pub record GetRun (old : State) (key : List ℕ) (replies : List Reply) (new : State) : Type 0 where
+pub record GetRun (old : Driven) (key : List ℕ) (replies : List Reply) (new : Driven) : Type 0 where
   pub answer : Got
-  pub turn : Turn old (Getting key answer) new
+  pub turn : PlainTurn old (Getting key answer) new
   pub prints : reading_replies answer ≡ Some replies
 
 -- a scan with these replies
-pub record ScanRun (old : State) (from to : List ℕ) (replies : List Reply) (new : State) : Type 0 where
+pub record ScanRun (old : Driven) (from to : List ℕ) (replies : List Reply) (new : Driven) : Type 0 where
   pub answer : Scanned
-  pub turn : Turn old (Scanning from to answer) new
+  pub turn : PlainTurn old (Scanning from to answer) new
   pub prints : scan_replies answer ≡ Some replies
 
 -- a listing with these replies
-pub record ListRun (old : State) (replies : List Reply) (new : State) : Type 0 where
+pub record ListRun (old : Driven) (replies : List Reply) (new : Driven) : Type 0 where
   pub answer : Result (List Entry) DiskError
-  pub turn : Turn old (Listing answer) new
+  pub turn : PlainTurn old (Listing answer) new
   pub prints : listing_replies answer ≡ Some replies
 
 -- the device crashes as it was picked, where that can be had of it
-abbrev pub CrashRun : Bool → State → Pick → List Reply → State → Type 0
-CrashRun true old pick replies new = (kept : Option ℕ) × Turn old (Crashing pick kept) new × (replies ≡ reply.Crashed ∷ [])
+abbrev pub CrashRun : Bool → Driven → Pick → List Reply → Driven → Type 0
+CrashRun true old pick replies new =
+    (kept : Option ℕ) × Turn old.state (Crashing pick kept) new.state × (new.jobs ≡ no_jobs) × (replies ≡ reply.Crashed ∷ [])
 CrashRun false old pick replies new = Rests old reply.NotSimulated replies new
 
 -- The reply to a command that makes no call, by whether a store is open. Commands that aren't built yet make none.
@@ -146,6 +149,8 @@ rest_reply true (Drain moves) = None
 rest_reply false (Drain moves) = Some reply.NotOpen
 rest_reply true Error = None
 rest_reply false Error = Some reply.NotOpen
+rest_reply true Close = None
+rest_reply false Close = Some reply.NotOpen
 rest_reply true Levels = None
 rest_reply false Levels = Some reply.NotOpen
 rest_reply is_one_open Files = None
@@ -173,7 +178,7 @@ needs_store command = false
 
 -- The calls that a command may make, the replies that then answer it, and the state that it leaves. Options are those of an
 -- opening.
-abbrev pub Calls : Options → State → Command → List Reply → State → Type 0
+abbrev pub Calls : Options → Driven → Command → List Reply → Driven → Type 0
 Calls options old Open replies new = OpenRun options old replies new
 Calls options old (Put key value sync) replies new = PutRun old (put_batch key value sync) replies new
 Calls options old (Del key sync) replies new = PutRun old (del_batch key sync) replies new
@@ -188,20 +193,21 @@ Calls options old (Scan from to) replies new = ScanRun old from to replies new
 Calls options old (Drain moves) replies new = DrainRun moves old replies new
 Calls options old Error replies new = ErrorRun old replies new
 Calls options old Levels replies new = LevelsRun old replies new
+Calls options old Close replies new = CloseRun old replies new
 Calls options old Files replies new = ListRun old replies new
 Calls options old (Fail call fault skip times keep) replies new = ArrangeRun old (rule.Fail call fault skip times keep) replies new
 Calls options old (Capacity bytes) replies new = ArrangeRun old (rule.Capacity bytes) replies new
 Calls options old (Crash dirops keep garbage seed) replies new =
-    CrashRun old.device.simulated old (record { dirops = dirops; keep = keep; garbage = garbage; seed = seed }) replies new
+    CrashRun old.state.device.simulated old (record { dirops = dirops; keep = keep; garbage = garbage; seed = seed }) replies new
 Calls options old command replies new = ⊥
 
 -- a command is answered without a call, or by its calls
-abbrev pub RestsOrCalls : Options → Option Reply → State → Command → List Reply → State → Type 0
+abbrev pub RestsOrCalls : Options → Option Reply → Driven → Command → List Reply → Driven → Type 0
 RestsOrCalls options (Some reply) old command replies new = Rests old reply replies new
 RestsOrCalls options None old command replies new = Calls options old command replies new
 
-abbrev pub CarriesOnStore : Options → State → Command → List Reply → State → Type 0
-CarriesOnStore options old command replies new = RestsOrCalls options (rest_reply (is_open old.mode.phase) command) old command replies new
+abbrev pub CarriesOnStore : Options → Driven → Command → List Reply → Driven → Type 0
+CarriesOnStore options old command replies new = RestsOrCalls options (rest_reply (is_open old.state.mode.phase) command) old command replies new
 
 -- ---- commands on the driver's own values
 
@@ -234,8 +240,8 @@ pub record TickRun (old : Session) (ticks : ℕ) (replies : List Reply) (new : S
 
 -- the store goes on by the command, and nothing else changes
 pub record StoreRun (old : Session) (command : Command) (replies : List Reply) (new : Session) : Type 0 where
-  pub carries : CarriesOnStore old.options old.store command replies new.store
-  pub rest : new ≡ with_store new.store old
+  pub carries : CarriesOnStore old.options (driven_in old) command replies (driven_in new)
+  pub rest : new ≡ with_store (driven_in new) old
 
 -- a command on the store, and not on the driver's own values
 abbrev pub IsOnStore : Command → Type 0
@@ -250,8 +256,8 @@ Carries old (Tick ticks) replies new = TickRun old ticks replies new
 Carries old command replies new = StoreRun old command replies new
 
 -- memory ended at a call of the command, behind a first part of its calls
-abbrev pub CallsPartly : Options → State → Command → State → Type 0
-CallsPartly options old Open new = Turn old (Opening options (Err refusal.OutOfMemory)) new
+abbrev pub CallsPartly : Options → Driven → Command → Driven → Type 0
+CallsPartly options old Open new = PlainTurn old (Opening options (Err refusal.OutOfMemory)) new
 CallsPartly options old (Put key value sync) new = PutCut old (put_batch key value sync) new
 CallsPartly options old (Del key sync) new = PutCut old (del_batch key sync) new
 CallsPartly options old (QueuePut client key value sync) new = QueueCut old (put_batch key value sync) new
@@ -259,17 +265,17 @@ CallsPartly options old (QueueDel client key sync) new = QueueCut old (del_batch
 CallsPartly options old Write new = WriteCut old new
 CallsPartly options old Flush new = FlushCut old new
 CallsPartly options old ResumeStep new = BootCut old new
-CallsPartly options old (Get key) new = Turn old (Getting key got.OutOfMemory) new
-CallsPartly options old (Scan from to) new = Turn old (Scanning from to scanned.OutOfMemory) new
+CallsPartly options old (Get key) new = PlainTurn old (Getting key got.OutOfMemory) new
+CallsPartly options old (Scan from to) new = PlainTurn old (Scanning from to scanned.OutOfMemory) new
 CallsPartly options old (Drain moves) new = DrainCut moves old new
-CallsPartly options old Files new = Turn old (Listing (Err disk.OutOfMemory)) new
+CallsPartly options old Files new = PlainTurn old (Listing (Err disk.OutOfMemory)) new
 CallsPartly options old (Fail call fault skip times keep) new = ArrangeCut old (rule.Fail call fault skip times keep) new
 CallsPartly options old (Capacity bytes) new = ArrangeCut old (rule.Capacity bytes) new
 CallsPartly options old command new = ⊥
 
 -- where it makes calls
-abbrev pub Partly : Options → State → Command → State → Type 0
-Partly options old command new = (rest_reply (is_open old.mode.phase) command ≡ None) × CallsPartly options old command new
+abbrev pub Partly : Options → Driven → Command → Driven → Type 0
+Partly options old command new = (rest_reply (is_open old.state.mode.phase) command ≡ None) × CallsPartly options old command new
 
 -- one command after another
 abbrev pub Run : Session → List Command → List Reply → Session → Type 0

@@ -8,15 +8,21 @@ use Rattle.keel_disk.specs.Seen.{Seen}
 use Rattle.keel_machine.specs.States.{State, Footing, Known, Unknown, Shut, Nothing, new_story, no_batches}
 use Rattle.keel_manifest.specs.State.{named_at_opening}
 use Rattle.keel_recovery.specs.Machine.{RestsIn}
+use Rattle.keel_cli.specs.declared.holding.HeldJobs.{HeldJobs}
+use Rattle.keel_cli.specs.Jobs.{Driven, driven, no_jobs}
 
--- its store as the machine has it, the options for the next opening, and the tick
+-- its store as the machine has it, the job numbers that it holds, the options for the next opening, and the tick
 pub record Session : Type 0 where
   pub store : State
+  pub jobs : HeldJobs
   pub options : Options
   pub tick : ℕ
 
-abbrev pub with_store : State → Session → Session
-with_store store session = record session { store = store }
+abbrev pub driven_in : Session → Driven
+driven_in session = driven session.store session.jobs
+
+abbrev pub with_store : Driven → Session → Session
+with_store s session = record session { store = s.state; jobs = s.jobs }
 
 -- no store was opened yet on a device that shows this
 abbrev pub unopened : Footing → Seen → State
@@ -34,9 +40,10 @@ unopened footing device = record {
   numbers = record { next_file = 1; manifest = named_at_opening None 0; in_tables = 0 };
 }
 
--- a run begins so: no store, each option with its default, and tick 0
+-- a run begins so: no store, no job number, each option with its default, and tick 0
 pub record Begins (footing : Footing) (device : Seen) (session : Session) : Type 0 where
   pub store : session.store ≡ unopened footing device
+  pub jobs : session.jobs ≡ no_jobs
   pub options : AreDefaults session.options
   pub tick : session.tick ≡ 0
 

@@ -2,10 +2,9 @@
 use Rattle.std.specs.Prelude.{◌≡◌, Option, None, Some, List, [], ◌∷◌}
 use Rattle.keel_machine.specs.declared.steps.WriteStep.{WriteStep}
 use Rattle.keel_machine.specs.declared.steps.WriteStep.TheVariants as step
-use Rattle.keel_machine.specs.States.{State}
-use Rattle.keel_machine.specs.Turns.{Turn, Writing}
 use Rattle.keel_script.specs.declared.reply.Reply.{Reply}
 use Rattle.keel_script.specs.declared.reply.Reply.TheVariants as reply
+use Rattle.keel_cli.specs.Jobs.{Driven, WriteTurn}
 
 -- the reply that prints a step; want of memory has none
 abbrev pub step_replies : WriteStep → Option (List Reply)
@@ -20,11 +19,11 @@ step_replies (step.Cancelled job current) = Some (reply.Cancelled job current �
 step_replies step.OutOfMemory = None
 
 -- a step with these replies
-pub record WriteRun (old : State) (replies : List Reply) (new : State) : Type 0 where
+pub record WriteRun (old : Driven) (replies : List Reply) (new : Driven) : Type 0 where
   pub step : WriteStep
-  pub turn : Turn old (Writing None step) new
+  pub turn : WriteTurn old step new
   pub prints : step_replies step ≡ Some replies
 
 -- memory ended at the step
-abbrev pub WriteCut : State → State → Type 0
-WriteCut old new = Turn old (Writing None step.OutOfMemory) new
+abbrev pub WriteCut : Driven → Driven → Type 0
+WriteCut old new = WriteTurn old step.OutOfMemory new

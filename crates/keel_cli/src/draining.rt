@@ -6,8 +6,13 @@ ghost use Rattle.keel_cli.specs.Drains.{DrainRun, DrainCut, moves_of_boot, moves
 ghost use Rattle.keel_machine.specs.declared.steps.JobStep.TheVariants as job_steps;
 ghost use Rattle.keel_machine.specs.declared.steps.ResumeStep.TheVariants as resume_steps;
 ghost use Rattle.keel_machine.specs.declared.steps.WriteStep.TheVariants as steps;
+ghost use Rattle.keel_cli.specs.Jobs.{driven};
 ghost use Rattle.keel_cli.specs.Stores.{CoreLeads, StandsForSome};
 
+use crate::HeldJobs;
+use crate::booting::resume_step;
+use crate::flushing::flush_step;
+use crate::stepping::write_step;
 use keel_base::OutOfMemory;
 use keel_core::Core;
 use keel_disk::Device;
@@ -68,26 +73,29 @@ fn moves_of_flush(step: JobStep) -> Result<u64, OutOfMemory>
 pub(crate) fn drain<V: Device>(
     alloc: Global,
     core: &mut Core<V>,
+    jobs: &mut HeldJobs,
     moves: u64,
 ) -> Result<Reply, OutOfMemory>
     requires told { StandsForSome core.old }
-    ensures carried { (s : State) → StandsFor core.old s → IfOk result (λ reply. CoreLeads core.new (DrainRun moves s (reply ∷ []))) }
-    ensures cut { (s : State) → StandsFor core.old s → OnErr result (CoreLeads core.new (DrainCut moves s)) }
+    ensures carried { (s : State) → StandsFor core.old s
+        → IfOk result (λ reply. CoreLeads core.new (λ new. DrainRun moves (driven s jobs.old) (reply ∷ []) (driven new jobs.new))) }
+    ensures cut { (s : State) → StandsFor core.old s
+        → OnErr result (CoreLeads core.new (λ new. DrainCut moves (driven s jobs.old) (driven new jobs.new))) }
     ensures told { StandsForSome core.new }
 {
     let mut made = 0;
     'rounds: while made < moves {
-        let step = core.resume_step(alloc, None);
+        let step = resume_step(alloc, core, jobs);
         let booted = moves_of_boot(step)?;
         if made + booted == moves {
             return Ok(Reply::More);
         }
-        let step = core.write_step(alloc, None);
+        let step = write_step(alloc, core, jobs);
         let written = moves_of_write(step)?;
         if made + booted + written == moves {
             return Ok(Reply::More);
         }
-        let step = core.flush_step(alloc, None);
+        let step = flush_step(alloc, core, jobs);
         let flushed = moves_of_flush(step)?;
         if booted + written + flushed == 0 {
             return Ok(Reply::Quiet);

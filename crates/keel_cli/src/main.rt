@@ -32,6 +32,7 @@ mod draining;
 mod driver;
 mod failing;
 mod flushing;
+mod holding;
 mod lines;
 mod putting;
 mod starting;
@@ -43,6 +44,7 @@ mod words;
 
 pub use answer::{Answer, text_of};
 pub use driver::Driver;
+pub use holding::HeldJobs;
 use keel_base::{ReadSource, WriteSink, give_all};
 use keel_dirdisk::DirDisk;
 use keel_disk::Device;

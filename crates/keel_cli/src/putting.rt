@@ -4,9 +4,13 @@ ghost use Rattle.keel_machine.specs.States.{State};
 ghost use Rattle.keel_machine.specs.declared.answers.Admit.TheVariants as admit;
 ghost use Rattle.keel_machine.specs.declared.answers.Part.TheVariants as parts;
 ghost use Rattle.keel_core.specs.Views.{StandsFor};
+ghost use Rattle.keel_cli.specs.declared.holding.HeldJobs.{HeldJobs as Jobs};
+ghost use Rattle.keel_cli.specs.Jobs.{driven};
 ghost use Rattle.keel_cli.specs.Stores.{CoreLeads, StandsForSome};
 ghost use Rattle.keel_cli.specs.Puts.{put_batch as batch_of_put, del_batch as batch_of_del, refusal_replies, Tells, PutRun, PutCut, QueueRun, QueueCut};
 
+use crate::HeldJobs;
+use crate::stepping::write_step;
 use keel_base::{Batch, Bytes, Op, Ops, OutOfMemory};
 use keel_core::Core;
 use keel_disk::Device;
@@ -51,6 +55,7 @@ fn ticket_or_reply(answer: Admit) -> Result<Admitted, OutOfMemory>
     match answer {
         Admit::Queued { ticket } => Ok(Admitted::Queued(ticket)),
         Admit::BadSize { part, length } => Ok(Admitted::Refused(size_reply(part, length))),
+        Admit::Closing => Ok(Admitted::Refused(Reply::NotOpen)),
         Admit::Booting => Ok(Admitted::Refused(Reply::Booting)),
         Admit::Stopped(failure) => Ok(Admitted::Refused(Reply::Stopped(failure))),
         Admit::Spent(counter) => Ok(Admitted::Refused(Reply::Spent(counter))),
@@ -66,12 +71,15 @@ fn ticket_or_reply(answer: Admit) -> Result<Admitted, OutOfMemory>
 pub(crate) fn put_batch<V: Device>(
     alloc: Global,
     core: &mut Core<V>,
+    jobs: &mut HeldJobs,
     batch: Batch,
 ) -> Result<Reply, OutOfMemory>
     requires one { length batch.ops ≡ 1 }
     requires told { StandsForSome core.old }
-    ensures carried { (s : State) → StandsFor core.old s → IfOk result (λ reply. CoreLeads core.new (PutRun s batch (reply ∷ []))) }
-    ensures cut { (s : State) → StandsFor core.old s → OnErr result (CoreLeads core.new (PutCut s batch)) }
+    ensures carried { (s : State) → StandsFor core.old s
+        → IfOk result (λ reply. CoreLeads core.new (λ new. PutRun (driven s jobs.old) batch (reply ∷ []) (driven new jobs.new))) }
+    ensures cut { (s : State) → StandsFor core.old s
+        → OnErr result (CoreLeads core.new (λ new. PutCut (driven s jobs.old) batch (driven new jobs.new))) }
     ensures told { StandsForSome core.new }
 {
     let ticket = match ticket_or_reply(core.admit(batch))? {
@@ -84,18 +92,19 @@ pub(crate) fn put_batch<V: Device>(
             Outcome::Done { seq } => return Ok(Reply::PutOk { seq }),
             Outcome::Failed(failure) => return Ok(Reply::Failed(failure)),
             Outcome::Turned(failure) => return Ok(Reply::Stopped(failure)),
+            Outcome::Closed => unreachable!(),
             Outcome::Unknown => unreachable!(),
         }
-        match core.write_step(alloc, None) {
+        match write_step(alloc, core, jobs) {
             WriteStep::OutOfMemory => return Err(OutOfMemory),
             WriteStep::Full { .. } => return Ok(Reply::Waiting { ticket }),
             WriteStep::Spent(_) => return Ok(Reply::Waiting { ticket }),
-            WriteStep::Cancelled { .. } => unreachable!(),
             WriteStep::Idle
             | WriteStep::Moved { .. }
             | WriteStep::Done { .. }
             | WriteStep::Failed(_)
-            | WriteStep::Turned { .. } => {}
+            | WriteStep::Turned { .. }
+            | WriteStep::Cancelled { .. } => {}
         }
     }
 }
@@ -104,8 +113,10 @@ pub(crate) fn put_batch<V: Device>(
 pub(crate) fn queue_batch<V: Device>(core: &mut Core<V>, batch: Batch) -> Result<Reply, OutOfMemory>
     requires one { length batch.ops ≡ 1 }
     requires told { StandsForSome core.old }
-    ensures carried { (s : State) → StandsFor core.old s → IfOk result (λ reply. CoreLeads core.new (QueueRun s batch (reply ∷ []))) }
-    ensures cut { (s : State) → StandsFor core.old s → OnErr result (CoreLeads core.new (QueueCut s batch)) }
+    ensures carried { (s : State) (jobs : Jobs) → StandsFor core.old s
+        → IfOk result (λ reply. CoreLeads core.new (λ new. QueueRun (driven s jobs) batch (reply ∷ []) (driven new jobs))) }
+    ensures cut { (s : State) (jobs : Jobs) → StandsFor core.old s
+        → OnErr result (CoreLeads core.new (λ new. QueueCut (driven s jobs) batch (driven new jobs))) }
     ensures told { StandsForSome core.new }
 {
     match ticket_or_reply(core.admit(batch))? {

@@ -5,18 +5,19 @@ ghost use Rattle.keel_machine.specs.States.{State};
 ghost use Rattle.keel_core.specs.Views.{StandsFor};
 ghost use Rattle.keel_disk.specs.Rule.{IsAllowed};
 ghost use Rattle.keel_machine.specs.Reads.{IsBorne};
-ghost use Rattle.keel_machine.specs.Turns.{Arranging, Turn};
+ghost use Rattle.keel_machine.specs.Turns.{Arranging};
 ghost use Rattle.keel_script.specs.Grammar as grammar;
 ghost use Rattle.keel_recovery.specs.Machine.{IsCovered};
 ghost use Rattle.keel_script.specs.declared.command.Command.TheVariants as command;
 ghost use Rattle.keel_cli.specs.declared.answer.Answer.TheVariants as answers;
+ghost use Rattle.keel_cli.specs.Closes.{CloseRun};
 ghost use Rattle.keel_cli.specs.Cuts.{CarriedOut};
+ghost use Rattle.keel_cli.specs.Jobs.{Driven, PlainTurn, driven};
 ghost use Rattle.keel_cli.specs.Replies.{replies_of};
 ghost use Rattle.keel_cli.specs.Runs.{listing_replies, needs_store, rest_reply};
 ghost use Rattle.keel_cli.specs.Stores.{IsTidy, Leads, Shows, Stands, StandsForSome, is_one_open, view_of};
 ghost use Rattle.keel_cli.specs.Stores as view;
 
-use crate::Answer;
 use crate::arranging::{arranged_reply, rule_of};
 use crate::booting::resume;
 use crate::draining::drain;
@@ -26,6 +27,7 @@ use crate::putting::{key_batch, pair_batch, put_batch, queue_batch};
 use crate::starting::start;
 use crate::stepping::write;
 use crate::telling::error;
+use crate::{Answer, HeldJobs};
 use keel_base::{Bytes, Listing, Options, OutOfMemory};
 use keel_core::{Core, Refused};
 use keel_disk::{Device, DiskError, Pick, Rule};
@@ -44,7 +46,7 @@ pub struct Store<V: Device> {
 #[derive(Drop)]
 enum Held<V: Device> {
     Closed(V),
-    Open(Core<V>),
+    Open(Core<V>, HeldJobs),
     // A call has the device, and puts it back before it returns.
     Lent,
 }
@@ -106,6 +108,7 @@ fn rest_reply(is_open: bool, command: &Command) -> Option<Reply>
         | Command::Scan { .. }
         | Command::Error
         | Command::Levels
+        | Command::Close
         | Command::Drain { .. } => { if is_open { None } else { Some(Reply::NotOpen) } }
         Command::Files | Command::Fail { .. } | Command::Capacity { .. } | Command::Crash { .. } =>
             None,
@@ -122,8 +125,8 @@ fn get<V: Device>(
 ) -> Result<Answer, OutOfMemory>
     requires { StandsForSome core.old }
     ensures told { StandsForSome core.new }
-    ensures out { (s : State) → StandsFor core.old s → IsBorne s
-        → CarriedOut options.now s (command.Get key.now) (view.Open core.new) result }
+    ensures out { (s : Driven) → StandsFor core.old s.state → IsBorne s.state
+        → CarriedOut options.now s (command.Get key.now) (view.Open core.new s.jobs) result }
 {
     match core.get(alloc, key.as_slice()) {
         Got::Value(value) => Ok(Answer::One(Reply::Value(value))),
@@ -143,8 +146,8 @@ fn scan<V: Device>(
 ) -> Result<Answer, OutOfMemory>
     requires { StandsForSome core.old }
     ensures told { StandsForSome core.new }
-    ensures out { (s : State) → StandsFor core.old s → IsBorne s
-        → CarriedOut options.now s (command.Scan from.now to.now) (view.Open core.new) result }
+    ensures out { (s : Driven) → StandsFor core.old s.state → IsBorne s.state
+        → CarriedOut options.now s (command.Scan from.now to.now) (view.Open core.new s.jobs) result }
 {
     match core.scan(alloc, from.as_slice(), to.as_slice()) {
         Scanned::Rows(rows) => Ok(Answer::Rows(rows)),
@@ -158,22 +161,23 @@ fn answer_on<V: Device>(
     alloc: Global,
     options: &Options,
     core: &mut Core<V>,
+    jobs: &mut HeldJobs,
     command: &Command,
 ) -> Result<Answer, OutOfMemory>
     requires told { StandsForSome core.old }
     requires store { needs_store command.now ≡ true }
     ensures told { StandsForSome core.new }
     ensures out { (s : State) → StandsFor core.old s → IsBorne s
-        → CarriedOut options.now s command.now (view.Open core.new) result }
+        → CarriedOut options.now (driven s jobs.old) command.now (view.Open core.new jobs.new) result }
 {
     match command {
         Command::Put { key, value, sync } => {
             let put = pair_batch(alloc, key, value, *sync)?;
-            one(put_batch(alloc, core, put))
+            one(put_batch(alloc, core, jobs, put))
         }
         Command::Del { key, sync } => {
             let del = key_batch(alloc, key, *sync)?;
-            one(put_batch(alloc, core, del))
+            one(put_batch(alloc, core, jobs, del))
         }
         Command::QueuePut {
             key,
@@ -188,14 +192,14 @@ fn answer_on<V: Device>(
             let del = key_batch(alloc, key, *sync)?;
             one(queue_batch(core, del))
         }
-        Command::Write => one(write(alloc, core)),
-        Command::Flush => one(flush(alloc, core)),
-        Command::ResumeStep => one(resume(alloc, core)),
-        Command::Drain { moves } => one(drain(alloc, core, *moves)),
+        Command::Write => one(write(alloc, core, jobs)),
+        Command::Flush => one(flush(alloc, core, jobs)),
+        Command::ResumeStep => one(resume(alloc, core, jobs)),
+        Command::Drain { moves } => one(drain(alloc, core, jobs, *moves)),
         Command::Get { key } => get(alloc, options, core, key),
         Command::Scan { from, to } => scan(alloc, options, core, from, to),
         Command::Error => Ok(Answer::One(error(core))),
-        Command::Resume => Ok(Answer::One(start(core))),
+        Command::Resume => Ok(Answer::One(start(core, jobs))),
         Command::Levels => Ok(Answer::Levels(core.levels())),
         _ => unreachable!(),
     }
@@ -209,7 +213,7 @@ impl<V: Device> Held<V> {
     {
         match mem::replace(self, Held::Lent) {
             Held::Closed(device) => device,
-            Held::Open(core) => core.finish(),
+            Held::Open(core, _) => core.finish(),
             Held::Lent => unreachable!(),
         }
     }
@@ -230,7 +234,7 @@ impl<V: Device> Store<V> {
         ensures { result ≡ is_one_open self.now }
     {
         match &self.held {
-            Held::Open(_) => true,
+            Held::Open(_, _) => true,
             _ => false,
         }
     }
@@ -245,11 +249,11 @@ impl<V: Device> Store<V> {
 
     // Whether its device is a simulated one.
     fn simulated(&self) -> bool
-        ensures { (s : State) → Stands self.now s → result ≡ s.device.simulated }
+        ensures { (s : Driven) → Stands self.now s → result ≡ s.state.device.simulated }
     {
         match &self.held {
             Held::Closed(device) => device.simulated(),
-            Held::Open(core) => core.simulated(),
+            Held::Open(core, _) => core.simulated(),
             Held::Lent => unreachable!(),
         }
     }
@@ -257,14 +261,14 @@ impl<V: Device> Store<V> {
     // Opens a closed store with these options. Where that is refused, it stays closed.
     fn open(&mut self, alloc: Global, options: &Options) -> Result<Answer, OutOfMemory>
         requires { is_one_open self.old ≡ false }
-        ensures { (s : State) → Stands self.old s → IsCovered s
+        ensures { (s : Driven) → Stands self.old s → IsCovered s.state
             → CarriedOut options.now s command.Open self.new result }
     {
         let device = self.held.take_device();
         match Core::open(alloc, *options, device) {
             Ok(core) => {
                 let seq = core.last_seq();
-                self.held = Held::Open(core);
+                self.held = Held::Open(core, HeldJobs::none());
                 Ok(Answer::One(Reply::Opened { seq }))
             }
             Err(Refused { refusal, disk }) => {
@@ -274,14 +278,31 @@ impl<V: Device> Store<V> {
         }
     }
 
+    // Closes an open store, and has its device back.
+    fn close(&mut self) -> Answer
+        requires { is_one_open self.old ≡ true }
+        ensures { (s : Driven) → Stands self.old s
+            → Leads self.new (λ new. CloseRun s (replies_of result) new) }
+    {
+        match mem::replace(&mut self.held, Held::Lent) {
+            Held::Open(core, _) => {
+                let mut core = core;
+                let tickets = core.close();
+                self.held = Held::Closed(core.finish());
+                Answer::One(Reply::Closed { tickets })
+            }
+            _ => unreachable!(),
+        }
+    }
+
     // The files of the directory.
     fn list(&mut self, alloc: Global, options: &Options) -> Result<Answer, OutOfMemory>
-        ensures { (s : State) → Stands self.old s
+        ensures { (s : Driven) → Stands self.old s
             → CarriedOut options.now s command.Files self.new result }
     {
         match &mut self.held {
             Held::Closed(device) => list_answer(device.list(alloc)),
-            Held::Open(core) => list_answer(core.list(alloc)),
+            Held::Open(core, _) => list_answer(core.list(alloc)),
             Held::Lent => unreachable!(),
         }
     }
@@ -289,18 +310,18 @@ impl<V: Device> Store<V> {
     // Hands a rule to the device, whether or not a store is open on it.
     fn arrange(&mut self, alloc: Global, rule: Rule) -> Result<bool, OutOfMemory>
         requires { IsAllowed rule }
-        ensures { (s : State) → Stands self.old s → Leads self.new (Turn s (Arranging rule result)) }
+        ensures { (s : Driven) → Stands self.old s → Leads self.new (PlainTurn s (Arranging rule result)) }
     {
         match &mut self.held {
             Held::Closed(device) => device.arrange(alloc, rule),
-            Held::Open(core) => core.arrange(alloc, rule),
+            Held::Open(core, _) => core.arrange(alloc, rule),
             Held::Lent => unreachable!(),
         }
     }
 
     // Crashes a simulated device, which leaves the store closed.
     fn crash(&mut self, alloc: Global, options: &Options, pick: Pick) -> Result<Answer, OutOfMemory>
-        ensures { (s : State) → Stands self.old s → IsCovered s
+        ensures { (s : Driven) → Stands self.old s → IsCovered s.state
             → CarriedOut options.now s (command.Crash pick.dirops pick.keep pick.garbage pick.seed) self.new result }
     {
         if !self.simulated() {
@@ -323,7 +344,7 @@ impl<V: Device> Store<V> {
         command: &Command,
     ) -> Result<Answer, OutOfMemory>
         requires { grammar.IsAllowed command.now }
-        ensures { (s : State) → Stands self.old s → IsCovered s
+        ensures { (s : Driven) → Stands self.old s → IsCovered s.state
             → CarriedOut options.now s command.now self.new result }
     {
         if let Some(reply) = rest_reply(self.is_open(), command) {
@@ -335,6 +356,7 @@ impl<V: Device> Store<V> {
         match command {
             Command::Open => self.open(alloc, options),
             Command::Files => self.list(alloc, options),
+            Command::Close => Ok(self.close()),
             Command::Crash {
                 dirops,
                 keep,
@@ -351,7 +373,7 @@ impl<V: Device> Store<V> {
                 },
             ),
             _ => match &mut self.held {
-                Held::Open(core) => answer_on(alloc, options, core, command),
+                Held::Open(core, jobs) => answer_on(alloc, options, core, jobs, command),
                 _ => unreachable!(),
             },
         }

@@ -1,7 +1,7 @@
 // What an open store tells of the failure that stands.
 ghost use Rattle.std.specs.Prelude.{◌≡◌, ◌∷◌, []};
-ghost use Rattle.keel_machine.specs.States.{State};
 ghost use Rattle.keel_core.specs.Views.{StandsFor};
+ghost use Rattle.keel_cli.specs.Jobs.{Driven, driven};
 ghost use Rattle.keel_cli.specs.Stores.{CoreLeads};
 ghost use Rattle.keel_cli.specs.Telling.{ErrorRun, error_reply};
 
@@ -26,7 +26,8 @@ fn error_reply(paranoid: bool, standing: Option<Failure>) -> Reply
 
 /// Tells the failure that stands, with its grade.
 pub(crate) fn error<V: Device>(core: &Core<V>) -> Reply
-    ensures { (s : State) → StandsFor core.now s → CoreLeads core.now (ErrorRun s (result ∷ [])) }
+    ensures { (s : Driven) → StandsFor core.now s.state
+        → CoreLeads core.now (λ new. ErrorRun s (result ∷ []) (driven new s.jobs)) }
 {
     error_reply(core.options().paranoid, core.standing())
 }

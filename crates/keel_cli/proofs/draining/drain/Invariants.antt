@@ -6,7 +6,7 @@ use Rattle.keel_cli.proofs.draining.drain.Given as goal
 -- so many moves were made
 abbrev pub invariant-rounds : goal.invariant-rounds
 invariant-rounds g l = record {
-  goes : Gone l.moves l.fn.core l.made l.core;
+  goes : Gone l.moves l.fn.core l.fn.jobs l.made l.core l.jobs;
   few : l.made ≤ l.moves;
   told : StandsForSome l.core;
 }

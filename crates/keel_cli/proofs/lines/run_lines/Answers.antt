@@ -2,7 +2,8 @@ use Rattle.std.proofs.Common.{◌≡◌, ℕ, ◌+◌, List, [], ◌∷◌, ◌+
 use Rattle.keel_lines.specs.Calls.{GivesLine, IsFinished, IsHeld}
 use Rattle.keel_lines.proofs.Deliveries.{adds_line, ends_lines, holds_lines}
 use Rattle.keel_disk.specs.Seen.{Seen}
-use Rattle.keel_cli.specs.Sessions.{Session, unopened}
+use Rattle.keel_cli.specs.Jobs.{no_jobs}
+use Rattle.keel_cli.specs.Sessions.{Session, driven_in, unopened}
 use Rattle.keel_cli.proofs.Carrying.{shows_as, shows_one}
 use Rattle.keel_cli.proofs.Running.{run_begins, run_goes_on, run_stops, run_ends}
 use Rattle.keel_cli.proofs.Streaming.{rose_later, nothing_given, completes, gets_none, stops_at, takes_few}
@@ -20,10 +21,10 @@ lines-init g c =
       few = omega arith;
       within = omega (arith, e.passed);
       so_far = λ footing may.
-          let first : Session = record { store = unopened footing shows; options = c.new-driver.result.settings; tick = 0 } in (
+          let first : Session = record { store = unopened footing shows; jobs = no_jobs; options = c.new-driver.result.settings; tick = 0 } in (
             first,
-            record { store = rw made.store (record { shut = refl; device = refl }); options = refl; tick = rw made.tick refl },
-            run_begins footing shows (g.K.Sink.held c.args.out.now) first (record { store = refl; options = made.options; tick = refl }) may,
+            record { store = rw made.store (record { shut = refl; device = refl; jobs = refl }); options = refl; tick = rw made.tick refl },
+            run_begins footing shows (g.K.Sink.held c.args.out.now) first (record { store = refl; jobs = refl; options = made.options; tick = refl }) may,
           );
       later = omega arith;
       read_later = omega (arith, e.faults);
@@ -41,7 +42,7 @@ returns-in-Ok-None-clause-end g c =
     (λ footing may.
     let old = inv.so_far footing may in
     run_ends footing shows (g.K.Sink.held c.args.out.now) back may inv.lines (g.K.Sink.held c.lines.out) old.0
-    (shows_as c.lines.driver.store old.0.store back old.1.store c.into_device.ensures) old.2)
+    (shows_as c.lines.driver.store (driven_in old.0) back old.1.store c.into_device.ensures) old.2)
 
 pub returns-in-Ok-None-clause-taken : goal.returns-in-Ok-None-clause-taken
 returns-in-Ok-None-clause-taken g c =
@@ -83,7 +84,7 @@ returns-in-Err-clause-end g c =
     (λ footing may.
     let old = inv.so_far footing may in
     run_ends footing shows (g.K.Sink.held c.args.out.now) back may inv.lines (g.K.Sink.held c.lines.out) old.0
-    (shows_as c.lines.driver.store old.0.store back old.1.store c.into_device-in-Err.ensures) old.2))
+    (shows_as c.lines.driver.store (driven_in old.0) back old.1.store c.into_device-in-Err.ensures) old.2))
 
 pub returns-in-Err-run_line-clause-end : goal.returns-in-Err-run_line-clause-end
 returns-in-Err-run_line-clause-end g c =

@@ -24,7 +24,7 @@ returns g c s stands =
           rw (w.self-inside-is, w.result-is)
           (arranged_shut s c.args.rule before (D.seen w.arrange.new.self) w.arrange.result shut did.answer did.told did.rest)
       | in-Open w ↦
-          let stood : Stands (Open w.in-Open.core) s = rw (← c.self.view_is, w.in-Open.is) at stands in
+          let stood : Stands (Open w.in-Open.core w.in-Open.field-1) s = rw (← c.self.view_is, w.in-Open.is) at stands in
           rw (w.self-inside-is, w.result-is)
-          (arranged_open s c.args.rule w.in-Open.core w.arrange-in-Open.new.self w.arrange-in-Open.result stood w.arrange-in-Open.ensures.turn)
+          (arranged_open s c.args.rule w.in-Open.core w.arrange-in-Open.new.self w.in-Open.field-1 w.arrange-in-Open.result stood w.arrange-in-Open.ensures.turn)
     ]

@@ -17,13 +17,13 @@ returns g c s stands covered =
     let behind : Seen = g.V.Disk.seen c.crash-crashed.new.self in
     let did = c.crash-crashed.ensures in
     let shown : Shows c.args.self.now before = rw c.self.view_is at c.take_device-device.ensures in
-    let is : s.device ≡ before = sym (shows_as c.args.self.now s before stands shown) in
+    let is : s.state.device ≡ before = sym (shows_as c.args.self.now s before stands shown) in
     let simulated : before.simulated ≡ true = ap (λ (d : Seen). d.simulated) (sym is) ∙ sym (c.if-not-simulated.ensures s stands) in
     elim c.match-crashed.branch [
       | in-Ok w ↦
           rw w.result-is
           (crashed c.args.options.now s pick.dirops pick.keep pick.garbage pick.seed behind covered
-          (dropped s pick before behind w.in-Ok.field-0 is simulated (rw w.in-Ok.is at did.answer) (rw w.in-Ok.is at did.told) (rw w.in-Ok.is at did.rest)))
+          (dropped s.state pick before behind w.in-Ok.field-0 is simulated (rw w.in-Ok.is at did.answer) (rw w.in-Ok.is at did.told) (rw w.in-Ok.is at did.rest)))
       | in-Err w ↦
           rw w.result-is
           (crash_cut c.args.options.now s pick.dirops pick.keep pick.garbage pick.seed behind _

@@ -16,7 +16,8 @@ returns-in-Ok g c s stands covered =
     let shows : Seen = g.V.Disk.seen c.take_device-device.result in
     let shown : Shows c.args.self.now shows = rw c.self.view_is at c.take_device-device.ensures in
     let shut = shut_where c.args.self.now s shows c.requires stands shown in
-    opened_run c.args.options.now s c.in-Ok.core shows _ shut (c.in-Ok.ensures.ok s shut.device (expected s shut.shut covered)) c.last_seq-seq.ensures
+    rw c.none.ensures
+    (opened_run c.args.options.now s c.in-Ok.core shows _ shut (c.in-Ok.ensures.ok s.state shut.device (expected s.state shut.shut covered)) c.last_seq-seq.ensures)
 
 pub returns-in-Err : goal.returns-in-Err
 returns-in-Err g c s stands covered =
@@ -24,4 +25,4 @@ returns-in-Err g c s stands covered =
     let shown : Shows c.args.self.now shows = rw c.self.view_is at c.take_device-device.ensures in
     let shut = shut_where c.args.self.now s shows c.requires stands shown in
     refused_run c.args.options.now s _ shows _ c.refusal_reply.result c.one.result shut
-    (c.in-Err.ensures.refused s shut.device) c.refusal_reply.ensures.printed c.refusal_reply.ensures.cut c.one.ensures.ok c.one.ensures.err
+    (c.in-Err.ensures.refused s.state shut.device) c.refusal_reply.ensures.printed c.refusal_reply.ensures.cut c.one.ensures.ok c.one.ensures.err
