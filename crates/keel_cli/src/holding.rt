@@ -68,7 +68,11 @@ pub(crate) fn start_held(start: Start, held: Option<u64>) -> Option<u64>
 {
     match start {
         Start::Started { job } => Some(job),
-        Start::Closing | Start::Nothing | Start::Busy { .. } | Start::Beyond(_) | Start::Cleared | Start::Spent(_) =>
-            held,
+        Start::Closing
+        | Start::Nothing
+        | Start::Busy { .. }
+        | Start::Beyond(_)
+        | Start::Cleared
+        | Start::Spent(_) => held,
     }
 }

@@ -33,4 +33,3 @@ returns-in-Close g c s stands covered =
     let none : rest_reply (is_one_open c.args.self.now) Close ≡ None = rw (c.is_open.ensures, c.in-Close.is) at (sym c.rest_reply.ensures ∙ c.in_default.is) in
     let opened = open_as c.args.self.now s stands ∙ open_where_closed (is_one_open c.args.self.now) none in
     (run.0, run.1, subst (λ (command : Command). CarriesOnStore c.args.options.now s command (replies_of c.close.result) run.0) (sym c.in-Close.is) (close_runs c.args.options.now s run.0 (replies_of c.close.result) opened run.2))
-
